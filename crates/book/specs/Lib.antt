@@ -1,0 +1,5 @@
+pub mod Bytes
+pub mod Book
+pub mod Refusals
+pub mod Reading
+pub mod Sound

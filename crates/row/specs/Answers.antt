@@ -1,0 +1,10 @@
+-- No kept set within the limits is worth more than a tight one: the ceiling of the tight one's prices bounds them all, and it is the
+-- tight one's worth. Assumes nothing.
+use mathlib.Core.Bool.{Bool}
+use Prim.Native.Nat.{ℕ, _≤_}
+use native.Mathlib.Omega.{arith}
+use Rattle.row.specs.Row.{Row, worth, Within, Tight}
+use Rattle.row.specs.Duality.{weak, tight}
+
+pub same-worth : (row : Row) (x x′ : ℕ → Bool) (y : ℕ → ℕ) → Tight row x y → Within row x′ → worth row x′ ≤ worth row x
+same-worth row x x′ y t w = omega (arith, weak row x′ y w, tight row x y t)

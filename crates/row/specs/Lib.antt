@@ -1,0 +1,6 @@
+pub mod Row
+pub mod Duality
+pub mod Clamp
+pub mod Answers
+pub mod Meets
+pub mod Channels

@@ -1,0 +1,1 @@
+// No code: what is true of rows of cells, in specs/.

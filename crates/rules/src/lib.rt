@@ -1,0 +1,1 @@
+// No code: the rules of document 01 as definitions, in specs/.

@@ -1,0 +1,5 @@
+pub mod Each
+pub mod Sums
+pub mod Table
+pub mod Lowest
+pub mod Pigeons
