@@ -2,4 +2,8 @@ pub mod Bytes
 pub mod Book
 pub mod Refusals
 pub mod Reading
+pub mod Means
+pub mod Laws
+pub mod InWords
 pub mod Sound
+pub mod Columns

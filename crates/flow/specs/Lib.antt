@@ -1,3 +1,9 @@
 pub mod Balanced
+pub mod Certificate
 pub mod Searching
+pub mod SearchSteps
+pub mod Raise
 pub mod Walking
+pub mod WalkSteps
+pub mod Ends
+pub mod Insert

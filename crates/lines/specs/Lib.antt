@@ -1,1 +1,12 @@
 pub mod RowOf
+pub mod Line
+pub mod Obeys
+pub mod Ways
+pub mod Laid
+pub mod Sets
+pub mod Ceiling
+pub mod Entries
+pub mod Found
+pub mod Made
+pub mod Best
+pub mod Accepted

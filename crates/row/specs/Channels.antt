@@ -9,6 +9,7 @@ use native.Mathlib.Omega.{arith}
 use borrow.Author.Tests.{eqb-true, eq-eqb}
 use lib.Dec.{eqb}
 use Rattle.sums.specs.Each.{some-at, some-of, some-ext, both, left-of, right-of, of-yes}
+use Rattle.sums.specs.Tests.{when-so}
 use Rattle.sums.specs.Lowest.{lowestFree, lowest-from, lowest-free, lowest-held, lowest-ext}
 use Rattle.sums.specs.Pigeons.{holders}
 use Rattle.row.specs.Row.{Row, covers, load, Within, before, meet, heldBefore}
@@ -32,11 +33,6 @@ pub record Holder (row : Row) (x : ℕ → Bool) (channel : ℕ → ℕ) (i c j 
   pub earlier : before row j i ≡ true
   pub meets : meet row j i ≡ true
   pub has : channel j ≡ c
-
--- a second test matters only where the first passes
-when-so : (s : Bool) {t u : Bool} → (s ≡ true → t ≡ u) → (s && t) ≡ (s && u)
-when-so true e = e refl
-when-so false e = refl
 
 module _ (row : Row) (x : ℕ → Bool) where
   pub held-by : (channel : ℕ → ℕ) (i c : ℕ) → heldBefore row x channel i c ≡ true → (j : ℕ) × Holder row x channel i c j

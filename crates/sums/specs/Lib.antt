@@ -3,3 +3,4 @@ pub mod Sums
 pub mod Table
 pub mod Lowest
 pub mod Pigeons
+pub mod Tests

@@ -1,0 +1,100 @@
+-- What the insertion method keeps true holds at the start, goes on over a candidate that is not worth its prices, and is the certificate at
+-- the end. The prices along an interval add up to what its last node lies deeper than its first, so that a kept candidate is worth them and
+-- a dropped one not more; and a cell with room has no price. Assumes nothing.
+use mathlib.Core.Path.{_≡_, sym, _∙_}
+use mathlib.Core.Bool.{Bool, true, false, _&&_}
+use mathlib.Core.Logic.{⊎-elim}
+use Prim.Native.Nat.{ℕ, zero, suc, _+_, _-_, _≤_, _<_}
+use native.Mathlib.Nat.{eq-or-lt-of-le, le-of-suc-le-suc, eq-zero-or-pos, le-trans}
+use native.Mathlib.Omega.{arith}
+use lib.Dec.{leb, ltb}
+use borrow.Author.Tests.{lt-leb, le-leb, lt-ltb, le-ltb}
+use Rattle.sums.specs.Each.{of-yes, less-or-not}
+use Rattle.sums.specs.Sums.{Σ, when, bit, Σ-ext, Σ-add, when-yes}
+use Rattle.row.specs.Row.{Row, covers, load, cost, Within, Tight}
+use Rattle.flow.specs.Balanced.{Proper, loadTo, Deep, Balanced, priceAt}
+
+-- ---- prices along an interval
+
+-- where N rises, the prices of the cells below node n add up to how much deeper than node 0 it lies
+depth : (N : ℕ → ℕ) (n : ℕ) → ((j : ℕ) → j < n → N j ≤ N (suc j)) → Σ n (priceAt N) + N 0 ≡ N n
+unfolding Σ priceAt
+depth N zero rises = omega arith
+depth N (suc n) rises = omega (arith, depth N n (λ j l. rises j (omega arith)), rises n (omega arith))
+
+-- a sum below k, as a part of one below n
+below : (n k : ℕ) (f : ℕ → ℕ) → k ≤ n → Σ n (λ j. when (ltb j k) (f j)) ≡ Σ k f
+unfolding Σ
+below zero k f l = let q : k ≡ 0 = omega arith in rw q
+below (suc n) k f l =
+    ⊎-elim
+    (λ (q : k ≡ suc n). rw q (Σ-ext (suc n) _ _ (λ j h. when-yes (ltb j (suc n)) (f j) (lt-ltb j (suc n) h))))
+    (λ (h : k < suc n). rw (le-ltb n k (omega arith)) (omega (arith, below n k f (omega arith))))
+    (eq-or-lt-of-le l)
+
+-- the cells below hi are those below lo and those from lo on
+apart : (lo hi j p : ℕ) → lo ≤ hi → when (leb lo j && ltb j hi) p + when (ltb j lo) p ≡ when (ltb j hi) p
+apart lo hi j p o = ⊎-elim (λ l. rw (lt-leb lo j l, lt-ltb j lo l, lt-ltb j hi (le-trans l o)) (omega arith)) (λ l. rw (le-leb lo j l, le-ltb j lo l) (omega arith)) (less-or-not j lo)
+
+-- what candidate i pays is what its last node lies deeper than its first
+pub cost-depth : (row : Row) {N : ℕ → ℕ} → ((j : ℕ) → j < row .cells → N j ≤ N (suc j)) → (i : ℕ) → row .lo i ≤ row .hi i → row .hi i ≤ row .cells → cost row (priceAt N) i + N (row .lo i) ≡ N (row .hi i)
+unfolding cost covers
+cost-depth row {N} rises i ordered inside =
+    omega (
+      arith,
+      Σ-add (row .cells) (λ j. when (covers row i j) (priceAt N j)) (λ j. when (ltb j (row .lo i)) (priceAt N j)),
+      Σ-ext (row .cells) _ _ (λ j l. apart (row .lo i) (row .hi i) j (priceAt N j) ordered),
+      below (row .cells) (row .lo i) (priceAt N) (le-trans ordered inside),
+      below (row .cells) (row .hi i) (priceAt N) inside,
+      depth N (row .lo i) (λ j l. rises j (omega arith)),
+      depth N (row .hi i) (λ j l. rises j (omega arith)),
+    )
+
+-- ---- at the start and at the end
+
+pub empty-balanced : {row : Row} {x : ℕ → Bool} {s N : ℕ → ℕ} → ((j : ℕ) → j < row .cells → s j ≡ row .limit j) → ((j : ℕ) → j ≤ row .cells → N j ≡ 0) → Balanced row 0 x s N
+unfolding loadTo Σ
+empty-balanced free flat = record {
+  room = λ j l. omega (arith, free j l);
+  deep = record {
+    rises = λ j l. omega (arith, flat j (omega arith));
+    level = λ j l r. omega (arith, flat (suc j) l);
+    paid = λ i l k. absurd (omega arith);
+    dropped = λ i l k. absurd (omega arith);
+  };
+}
+
+pub balanced-within : {row : Row} {x : ℕ → Bool} {s N : ℕ → ℕ} → Balanced row (row .count) x s N → Within row x
+unfolding load loadTo
+balanced-within b = record { holds = λ j l. omega (arith, b .room j l) }
+
+pub balanced-tight : {row : Row} {x : ℕ → Bool} {s N : ℕ → ℕ} → Proper row (row .count) → Balanced row (row .count) x s N → Tight row x (priceAt N)
+unfolding load loadTo priceAt
+balanced-tight {row} {x} {s} {N} p b = record {
+  full = λ j l priced. ⊎-elim (λ (none : s j ≡ 0). omega (arith, b .room j l)) (λ spare. absurd (omega (arith, b .deep .level j l spare))) (eq-zero-or-pos (s j));
+  paid = λ i l kept. omega (arith, spent i l, b .deep .paid i l kept);
+  dropped = λ i l left. omega (arith, spent i l, b .deep .dropped i l left);
+}
+  where
+    spent : (i : ℕ) → i < row .count → cost row (priceAt N) i + N (row .lo i) ≡ N (row .hi i)
+    spent i l = cost-depth row (b .deep .rises) i (omega (arith, p .some-cell i l)) (p .in-row i l)
+
+-- ---- one candidate more
+
+-- the new candidate need only answer for itself
+pub deep-more : {row : Row} {t : ℕ} {x x′ : ℕ → Bool} {s N : ℕ → ℕ} → Deep row t x s N → ((i : ℕ) → i < t → x′ i ≡ x i) →
+    (x′ t ≡ true → N (row .hi t) ≤ N (row .lo t) + row .profit t) → (x′ t ≡ false → N (row .lo t) + row .profit t ≤ N (row .hi t)) → Deep row (suc t) x′ s N
+deep-more {row} {t} {x} {x′} {s} {N} d same paid dropped = record {
+  rises = d .rises;
+  level = d .level;
+  paid = λ i l kept. ⊎-elim (λ (q : i ≡ t). rw q (paid (rw q at kept))) (λ h. d .paid i h (sym (same i h) ∙ kept)) (eq-or-lt-of-le (le-of-suc-le-suc l));
+  dropped = λ i l left. ⊎-elim (λ (q : i ≡ t). rw q (dropped (rw q at left))) (λ h. d .dropped i h (sym (same i h) ∙ left)) (eq-or-lt-of-le (le-of-suc-le-suc l));
+}
+
+-- not worth its prices, it is dropped, and nothing else changes
+pub dropped-at-once : {row : Row} {t : ℕ} {x x′ : ℕ → Bool} {s N : ℕ → ℕ} → Balanced row t x s N → ((i : ℕ) → i < t → x′ i ≡ x i) → x′ t ≡ false → N (row .lo t) + row .profit t ≤ N (row .hi t) → Balanced row (suc t) x′ s N
+unfolding loadTo Σ
+dropped-at-once {row} {t} {x} {x′} {s} b same left dear = record {
+  room = λ j l. rw left (omega (arith, b .room j l, Σ-ext t (λ i. bit (x′ i && covers row i j)) (λ i. bit (x i && covers row i j)) (λ i h. rw (same i h))));
+  deep = deep-more (b .deep) same (λ kept. absurd (of-yes (sym left ∙ kept))) (λ e. dear);
+}

@@ -1,0 +1,66 @@
+-- On a line a request has one way, and it crosses the spans between the two ends, which are the cells that the request is over in the row.
+-- Way 1 goes up from a and way 2 up from b, and the one that exists is the one that begins at the lower end. Assumes nothing.
+use mathlib.Core.Path.{_≡_}
+use mathlib.Core.Bool.{Bool, false, _&&_, and-true, and-false, or-false}
+use mathlib.Core.Logic.{⊎-elim}
+use Prim.Native.Nat.{ℕ, _-_, _≤_, _<_}
+use native.Mathlib.Omega.{arith}
+use borrow.Author.Tests.{lt-ltb, le-ltb}
+use lib.Dec.{leb, ltb, eqb}
+use Rattle.sums.specs.Each.{less-or-not}
+use Rattle.book.specs.Book.{Book, isRing, spansOf, spans, count, endA, endB}
+use Rattle.rules.specs.Ways.{upward, crosses, wayExists, lineWay, crossed}
+use Rattle.row.specs.Row.{covers}
+use Rattle.row.specs.Channels.{Proper}
+use Rattle.lines.specs.RowOf.{rowOf}
+use Rattle.lines.specs.Line.{Line}
+
+module _ {book : Book} (on : Line book) where
+  pub no-ring : isRing book ≡ false
+  no-ring = rw (on .line)
+
+  pub line-spans : spans book ≡ book .nodes - 1
+  unfolding spans spansOf
+  line-spans = rw (on .line)
+
+  -- where a is not the lower end, b is
+  b-lower : (i : ℕ) → i < count book → endB book i ≤ endA book i → endB book i < endA book i
+  b-lower i l h = omega (arith, on .sound .ends-differ i l)
+
+  pub line-way : (i w : ℕ) → i < count book → wayExists book i w ≡ eqb w (lineWay book i)
+  unfolding wayExists lineWay
+  line-way i w l = ⊎-elim up down (less-or-not a b)
+    where
+      a : ℕ
+      a = endA book i
+
+      b : ℕ
+      b = endB book i
+
+      up : a < b → wayExists book i w ≡ eqb w (lineWay book i)
+      up h = simp (no-ring, lt-ltb a b h, le-ltb b a (omega arith), and-true, and-false, or-false)
+
+      down : b ≤ a → wayExists book i w ≡ eqb w (lineWay book i)
+      down h = simp (no-ring, le-ltb a b h, lt-ltb b a (b-lower i l h), and-true, and-false)
+
+  pub crossed-covers : (i s : ℕ) → i < count book → crossed book i s ≡ covers (rowOf book) i s
+  unfolding crossed crosses lineWay upward rowOf covers
+  crossed-covers i s l = ⊎-elim up down (less-or-not (endA book i) (endB book i))
+    where
+      -- the spans from u up to v
+      between : (u v u′ v′ : ℕ) → u ≡ u′ → v ≡ v′ → (leb u s && ltb s v) ≡ (leb u′ s && ltb s v′)
+      between u v u′ v′ p q = rw (p, q)
+
+      up : endA book i < endB book i → crossed book i s ≡ covers (rowOf book) i s
+      up h = rw (lt-ltb _ _ h, or-false) (between _ _ _ _ (omega arith) (omega arith))
+
+      down : endB book i ≤ endA book i → crossed book i s ≡ covers (rowOf book) i s
+      down h = rw (le-ltb _ _ h, lt-ltb _ _ (b-lower i l h)) (between _ _ _ _ (omega arith) (omega arith))
+
+  -- every candidate is a real interval of the row, so those of any kept set are
+  pub proper : (x : ℕ → Bool) → Proper (rowOf book) x
+  unfolding rowOf
+  proper x = record {
+    some-cell = λ i l e. omega (arith, on .sound .ends-differ i l);
+    in-row = λ i l e. omega (arith, line-spans, on .sound .a-node i l, on .sound .b-node i l);
+  }

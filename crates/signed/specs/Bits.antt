@@ -1,0 +1,79 @@
+-- A value of type i64 that the code holds is its bits, read back: `rd z`, which is z where z fits. Here is what fits, by one bound on both
+-- parts of `Parts`, and what a sum, a difference and a test of two values that were read back come to. Assumes nothing.
+use mathlib.Core.Path.{_≡_, sym, ap, ap₂, subst, _∙_}
+use mathlib.Core.Bool.{true, false}
+use Prim.Native.Nat.{ℕ, _+_, _^_, _≤_, _<_}
+use native.Mathlib.Omega.{arith}
+use lib.IntN.{ℤ, pos, negsuc, _+ℤ_, _-ℤ_}
+use lib.Signed.{mag, ltZ}
+use mir.Syntax.{w64}
+use mir.Val.{SFits, toZ, ofZ}
+use mir.Facts.{toZ-ofZ}
+use Rattle.signed.specs.Parts.{up, dn, sum, dif}
+use Rattle.signed.specs.Tests.{ltZ-true, ltZ-false}
+
+-- z lies between −b and b: the form for bounds in contracts
+pub record Within (b : ℕ) (z : ℤ) : Type 0 where
+  pub high : up z ≤ b
+  pub low : dn z ≤ b
+
+pub within : (z : ℤ) (b : ℕ) → b < 2 ^ 63 → Within b z → SFits w64 z
+within (pos n) b l h = omega arith
+within (negsuc n) b l h = omega arith
+
+-- whatever fits is bounded so
+pub reach : (z : ℤ) → SFits w64 z → Within (2 ^ 63) z
+reach (pos n) f = omega arith
+reach (negsuc n) f = omega arith
+
+-- what the code knows of an element that it loaded (`.given`) and of a result that it was handed (`.ok`)
+pub known : (z : ℤ) → mag z < 2 ^ 63 → SFits w64 z
+known z h = record { sfits = h }
+
+-- z, written as bits and read back
+abbrev pub rd : ℤ → ℤ
+rd z = toZ w64 (ofZ w64 z)
+
+pub back : {z : ℤ} → SFits w64 z → rd z ≡ z
+back f = toZ-ofZ f
+
+-- the same in parts: by its bare name, omega applies it to each `SFits w64 z` in scope
+pub rd-bal : (z : ℤ) → SFits w64 z → up (rd z) + dn z ≡ up z + dn (rd z)
+rd-bal z f = rw (back f) (omega arith)
+
+-- ---- what the code makes of values that it read back
+
+-- `made`, which the code computes, is z, and z fits
+pub record Reads (made z : ℤ) : Type 0 where
+  pub is : made ≡ z
+  pub fits : SFits w64 made
+  pub ok : SFits w64 z
+  pub again : rd made ≡ z
+
+pub reads : {made z : ℤ} → made ≡ z → SFits w64 z → Reads made z
+reads e f = record { is = e; fits = subst (SFits w64) (sym e) f; ok = f; again = ap rd e ∙ back f }
+
+-- a sum and a difference of what the code holds: p and q are `rd x` (by `back`), an earlier `rd made` (by `again`), or a local's bits as they stand
+pub plus : {p q : ℤ} (x y : ℤ) → p ≡ x → q ≡ y → SFits w64 (x +ℤ y) → Reads (p +ℤ q) (x +ℤ y)
+plus x y e d f = reads (ap₂ _+ℤ_ e d) f
+
+pub minus : {p q : ℤ} (x y : ℤ) → p ≡ x → q ≡ y → SFits w64 (x -ℤ y) → Reads (p -ℤ q) (x -ℤ y)
+minus x y e d f = reads (ap₂ _-ℤ_ e d) f
+
+-- the same for two values within b
+pub added : {b : ℕ} (x y : ℤ) → b < 2 ^ 62 → Within b x → Within b y → Reads (rd x +ℤ rd y) (x +ℤ y)
+added {b} x y l p q = plus x y (back (within x b (omega arith) p)) (back (within y b (omega arith) q)) (within (x +ℤ y) (b + b) (omega arith) (omega (arith, sum x y)))
+
+pub taken : {b : ℕ} (x y : ℤ) → b < 2 ^ 62 → Within b x → Within b y → Reads (rd x -ℤ rd y) (x -ℤ y)
+taken {b} x y l p q = minus x y (back (within x b (omega arith) p)) (back (within y b (omega arith) q)) (within (x -ℤ y) (b + b) (omega arith) (omega (arith, dif x y)))
+
+-- a signed test on two bounded values
+pub lt-yes : {b : ℕ} (x y : ℤ) → b < 2 ^ 63 → Within b x → Within b y → ltZ (rd x) (rd y) ≡ true → up x + dn y < up y + dn x
+lt-yes {b} x y l p q e = omega (arith, ltZ-true, rd-bal x (within x b l p), rd-bal y (within y b l q))
+
+pub lt-no : {b : ℕ} (x y : ℤ) → b < 2 ^ 63 → Within b x → Within b y → ltZ (rd x) (rd y) ≡ false → up y + dn x ≤ up x + dn y
+lt-no {b} x y l p q e = omega (arith, ltZ-false, rd-bal x (within x b l p), rd-bal y (within y b l q))
+
+-- `==` compares bits
+pub same-bits : {x y : ℤ} → SFits w64 x → SFits w64 y → ofZ w64 x ≡ ofZ w64 y → x ≡ y
+same-bits f g e = sym (back f) ∙ ap (toZ w64) e ∙ back g
