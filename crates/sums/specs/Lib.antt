@@ -4,3 +4,4 @@ pub mod Table
 pub mod Lowest
 pub mod Pigeons
 pub mod Tests
+pub mod Greatest

@@ -1,0 +1,9 @@
+pub mod Ring
+pub mod Turn
+pub mod CutLine
+pub mod Crossing
+pub mod Fair
+pub mod Choice
+pub mod TurnedColumns
+pub mod Demand2
+pub mod Never15

@@ -1,0 +1,70 @@
+-- Refusal 15 is never given: a kept set that a best plan has is within its limits, and there the rule always finds a channel. Assumes nothing.
+use mathlib.Core.Path.{_≡_, refl, sym, ap, subst, _∙_}
+use mathlib.Core.Bool.{Bool, true, false, _&&_, cond}
+use mathlib.Core.Logic.{⊎-elim}
+use Prim.Native.Nat.{ℕ, _≤_, _<_}
+use native.Mathlib.Omega.{arith}
+use borrow.Author.Tests.{eq-eqb}
+use lib.Dec.{eqb}
+use Rattle.sums.specs.Sums.{bit, Σ-ext}
+use Rattle.book.specs.Book.{Book, isRing, spans, limit, count}
+use Rattle.book.specs.Sound.{Sound}
+use Rattle.rules.specs.Ways.{crosses}
+use Rattle.rules.specs.Plans.{Plan, kept, way, channel, over, load, obeys, Best}
+use Rattle.rules.specs.Cuts.{cutLine, cut, planLine}
+use Rattle.rules.specs.Operations.{NoneLeft}
+use Rattle.lines.specs.Line.{Line}
+use Rattle.lines.specs.Obeys.{obeys-fair}
+use Rattle.lines.specs.Laid.{Laid, obeys-laid}
+use Rattle.lines.specs.Found.{channel-found}
+use Rattle.rings.specs.Ring.{Ring}
+use Rattle.rings.specs.CutLine.{cut-count, cut-line}
+use Rattle.rings.specs.Choice.{cut-in}
+
+pub line-plan : (book : Book) → book .shape ≡ 1 → planLine book ≡ book
+unfolding planLine
+line-plan book e = ap (λ (s : ℕ). cond (eqb s 2) (cutLine book (cut book)) book) e
+
+pub ring-plan : (book : Book) → book .shape ≡ 2 → planLine book ≡ cutLine book (cut book)
+unfolding planLine
+ring-plan book e = ap (λ (s : ℕ). cond (eqb s 2) (cutLine book (cut book)) book) e
+
+-- the line on which a plan is made is a line, with the same requests and channels
+record Made (book line : Book) : Type 0 where
+  is-line : Line line
+  counted : count line ≡ count book
+  channelled : line .channels ≡ book .channels
+
+made : (book : Book) → Sound book → Made book (planLine book)
+unfolding cutLine
+made book sound = ⊎-elim on-line on-ring (sound .shaped)
+  where
+    on-line : book .shape ≡ 1 → Made book (planLine book)
+    on-line e = subst (Made book) (sym (line-plan book e)) (record { is-line = record { line = e; sound = sound }; counted = refl; channelled = refl })
+
+    on-ring : book .shape ≡ 2 → Made book (planLine book)
+    on-ring e =
+        let on : Ring book = record { ring = e; sound = sound } in
+        subst (Made book) (sym (ring-plan book e)) (record { is-line = cut-line on (cut book) (cut-in on); counted = cut-count on (cut book); channelled = refl })
+
+-- plans with the same set on the same ways load every span alike
+same-load : (book : Book) (plan other : Plan) → ((i : ℕ) → i < count book → (kept plan i ≡ kept other i) × (way plan i ≡ way other i)) → (s : ℕ) → load book plan s ≡ load book other s
+unfolding load over
+same-load book plan other same s =
+    Σ-ext (count book) _ _ (λ i l. let w = same i l in ap (λ (t : Bool). bit (t && crosses book i (way plan i) s)) (w .0) ∙ ap (λ (k : ℕ). bit (kept other i && crosses book i k s)) (w .1))
+
+pub none-left-never : (book : Book) → Sound book → (r : ℕ) → NoneLeft book r → ⊥
+none-left-never book sound r none = omega (arith, m .channelled, none .none-left, channel-found (m .is-line) laid within (none .channels) r (omega (arith, m .counted, none .asked .0)) (none .asked .1))
+  where
+    m : Made book (planLine book)
+    m = made book sound
+
+    known : (i : ℕ) → i < count (planLine book) → i < count book
+    known i l = omega (arith, m .counted)
+
+    -- the other plan obeys the rules of the line, and this one has its set and its ways
+    laid : Laid (planLine book) (none .plan)
+    laid = record { goes = λ i l k. let w = none .same-set i (known i l) in w .1 ∙ obeys-laid (m .is-line) (none .other-best .fair) .goes i l (sym (w .0) ∙ k) }
+
+    within : (s : ℕ) → s < spans (planLine book) → load (planLine book) (none .plan) s ≤ limit (planLine book) s
+    within s l = omega (arith, same-load (planLine book) (none .plan) (none .other) (λ i h. none .same-set i (known i h)) s, obeys-fair (planLine book) (none .other) (none .other-best .fair) .within-limits s l)

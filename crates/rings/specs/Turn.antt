@@ -1,0 +1,72 @@
+-- Places along the line which a cut leaves: a node or a span is counted from the node after the cut. Every number but the cut's own span has one place, and
+-- going round the ring from the cut is going along the line. Assumes nothing.
+use mathlib.Core.Path.{_≡_, refl, ap, _∙_}
+use mathlib.Core.Bool.{cond}
+use mathlib.Core.Logic.{_⊎_, inl, inr, ⊎-elim}
+use Prim.Native.Nat.{ℕ, _+_, _-_, _≤_, _<_}
+use native.Mathlib.Omega.{arith}
+use borrow.Author.Tests.{le-leb, lt-leb}
+use lib.Dec.{leb}
+use Rattle.sums.specs.Each.{less-or-not}
+use Rattle.rules.specs.Cuts.{steps, spanAt}
+
+-- up from u to v, or round past the last node
+pub record Placed (n u v p : ℕ) : Type 0 where
+  pub case : ((u ≤ v) × (p + u ≡ v)) ⊎ ((v < u) × (p + u ≡ v + n))
+
+pub steps-placed : (n u v : ℕ) → u ≤ n → Placed n u v (steps n u v)
+unfolding steps
+steps-placed n u v h =
+    record {
+      case =
+          ⊎-elim
+          (λ (l : v < u). inr (l, ap (λ (p : ℕ). p + u) (ap (λ b. cond b (v - u) (v + n - u)) (lt-leb u v l)) ∙ omega arith))
+          (λ (l : u ≤ v). inl (l, ap (λ (p : ℕ). p + u) (ap (λ b. cond b (v - u) (v + n - u)) (le-leb u v l)) ∙ omega arith))
+          (less-or-not v u);
+    }
+
+-- the place t of the line and the span that stands there
+pub record Stands (n j t s : ℕ) : Type 0 where
+  pub case : ((n ≤ j + 1 + t) × (s + n ≡ j + 1 + t)) ⊎ ((j + 1 + t < n) × (s ≡ j + 1 + t))
+
+pub span-stands : (n j t : ℕ) → Stands n j t (spanAt n j t)
+unfolding spanAt
+span-stands n j t =
+    record {
+      case =
+          ⊎-elim
+          (λ (l : j + 1 + t < n). inr (l, ap (λ b. cond b (j + 1 + t - n) (j + 1 + t)) (lt-leb n (j + 1 + t) l)))
+          (λ (l : n ≤ j + 1 + t). inl (l, ap (λ (p : ℕ). p + n) (ap (λ b. cond b (j + 1 + t - n) (j + 1 + t)) (le-leb n (j + 1 + t) l)) ∙ omega arith))
+          (less-or-not (j + 1 + t) n);
+    }
+
+module _ (n j : ℕ) (cut : j < n) where
+  pub place-below : (v : ℕ) → v < n → steps n (j + 1) v < n
+  place-below v h = ⊎-elim (λ w. omega (arith, w .1)) (λ w. omega (arith, w .1, w .0)) (steps-placed n (j + 1) v (omega arith) .case)
+
+  pub places-differ : (u v : ℕ) → u < n → v < n → steps n (j + 1) u ≡ steps n (j + 1) v → u ≡ v
+  places-differ u v hu hv e =
+      ⊎-elim
+      (λ w. ⊎-elim (λ x. omega (arith, w .1, x .1)) (λ x. omega (arith, w .1, w .0, x .1, x .0)) (steps-placed n (j + 1) v (omega arith) .case))
+      (λ w. ⊎-elim (λ x. omega (arith, w .1, w .0, x .1, x .0)) (λ x. omega (arith, w .1, x .1)) (steps-placed n (j + 1) v (omega arith) .case))
+      (steps-placed n (j + 1) u (omega arith) .case)
+
+  pub span-below : (t : ℕ) → t + 1 < n → spanAt n j t < n
+  span-below t h = ⊎-elim (λ w. omega (arith, w .1)) (λ w. omega (arith, w .1, w .0)) (span-stands n j t .case)
+
+  pub span-not-cut : (t : ℕ) → t + 1 < n → spanAt n j t ≡ j → ⊥
+  span-not-cut t h e = ⊎-elim (λ w. omega (arith, w .1)) (λ w. omega (arith, w .1)) (span-stands n j t .case)
+
+  pub place-of-span : (t : ℕ) → t + 1 < n → steps n (j + 1) (spanAt n j t) ≡ t
+  place-of-span t h =
+      ⊎-elim
+      (λ w. ⊎-elim (λ x. omega (arith, w .1, w .0, x .1, x .0)) (λ x. omega (arith, w .1, x .1)) (steps-placed n (j + 1) (spanAt n j t) (omega arith) .case))
+      (λ w. ⊎-elim (λ x. omega (arith, w .1, x .1)) (λ x. omega (arith, w .1, w .0, x .1, x .0)) (steps-placed n (j + 1) (spanAt n j t) (omega arith) .case))
+      (span-stands n j t .case)
+
+  pub span-of-place : (s : ℕ) → s < n → (s ≡ j → ⊥) → (steps n (j + 1) s + 1 < n) × (spanAt n j (steps n (j + 1) s) ≡ s)
+  span-of-place s h ne =
+      ⊎-elim
+      (λ w. (omega (arith, w .1, w .0), ⊎-elim (λ x. omega (arith, w .1, w .0, x .1, x .0)) (λ x. omega (arith, w .1, x .1)) (span-stands n j (steps n (j + 1) s) .case)))
+      (λ w. (omega (arith, w .1, w .0), ⊎-elim (λ x. omega (arith, w .1, x .1)) (λ x. omega (arith, w .1, w .0, x .1, x .0)) (span-stands n j (steps n (j + 1) s) .case)))
+      (steps-placed n (j + 1) s (omega arith) .case)
