@@ -1,0 +1,155 @@
+-- A node u spreads along the chain of the candidates that have one end at u, latest first. Between two links of the chain no candidate has
+-- that end at u: so where a link is done, all is done from the next link on. Assumes nothing.
+use mathlib.Core.Bool.{Bool, true, false}
+use mathlib.Core.List.{List}
+use mathlib.Core.Path.{_≡_, refl, sym, ap, _∙_}
+use Prim.Native.Nat.{ℕ, suc, _+_, _≤_, _<_}
+use native.Mathlib.Omega.{arith}
+use lib.IntN.{ℤ, pos, _-ℤ_}
+use lib.ListN.{getD}
+use Rattle.signed.specs.Bits.{rd, back, within}
+use Rattle.signed.specs.Parts.{up, dn, Neg, neg}
+use Rattle.sums.specs.Each.{of-yes}
+use Rattle.flow.specs.Searching.{Ground, Spread}
+use Rattle.flow.specs.SearchSteps.{spread-relaxed, along-arc, back-arc, chain-step-along, chain-step-back}
+use Rattle.planrow.specs.State.{at, flag, depth, groundIn, Ready, Chained, Relaxation, Lacks, Spreads}
+use Rattle.planrow.specs.Relaxed.{passing, relaxing}
+use Rattle.planrow.specs.Stages.{spreads-on}
+
+-- ---- along a chain
+
+-- the candidates from number i on are done: the dropped ones; the kept ones, after all dropped ones
+abbrev pub DroppedFrom : ℕ → Ground → ℕ → (ℕ → ℕ) → Type 0
+DroppedFrom i g u d = Spread g d u i (g .t)
+
+abbrev pub KeptFrom : ℕ → Ground → ℕ → (ℕ → ℕ) → Type 0
+KeptFrom i g u d = Spread g d u 0 i
+
+-- u has followed its chain down to i: it has got from stage First to From i
+pub record Followed (g : Ground) (First : Ground → ℕ → (ℕ → ℕ) → Type 0) (From : ℕ → Ground → ℕ → (ℕ → ℕ) → Type 0) (ends : List ℕ) (u : ℕ) (label₀ by₀ from₀ label by from : List ℕ) (i : ℕ) : Type 0 where
+  pub upto : i ≤ g .t
+  pub here : (e : ℕ) → i ≡ suc e → at ends e ≡ u
+  pub spreads : Spreads g First (From i) u label₀ by₀ from₀ label by from
+
+-- no candidate in a gap of the chain has its end at u: `skip` says that the gap is done
+module _
+    {g : Ground}
+    {First : Ground → ℕ → (ℕ → ℕ) → Type 0}
+    {From : ℕ → Ground → ℕ → (ℕ → ℕ) → Type 0}
+    {ends head next : List ℕ}
+    {u : ℕ}
+    (skip : (d : ℕ → ℕ) (i j : ℕ) → From i g u d → ((k : ℕ) → j ≤ k → k < i → k < g .t → at ends k ≡ u → ⊥) → From j g u d)
+    (chain : Chained (g .row .cells) (g .t) ends head next) where
+  pub begun : {label by from : List ℕ} → u ≤ g .row .cells → ((d : ℕ → ℕ) → First g u d → From (g .t) g u d) → Followed g First From ends u label by from label by from (at head u)
+  begun inside first = record {
+    upto = chain .head-in u inside;
+    here = λ e. chain .head-end u e inside;
+    spreads = passing (λ s. skip _ _ _ (first _ s) (λ k m l n q. omega (arith, chain .head-last u k inside n q)));
+  }
+
+  -- link e is done
+  pub followed : {label₀ by₀ from₀ label by from label′ by′ from′ : List ℕ} {i e : ℕ} → i ≡ suc e → Followed g First From ends u label₀ by₀ from₀ label by from i →
+      Spreads g (From (suc e)) (From e) u label by from label′ by′ from′ → Followed g First From ends u label₀ by₀ from₀ label′ by′ from′ (at next e)
+  followed {e = e} q f done = record {
+    upto = omega (arith, chain .next-in e inside);
+    here = λ k p. chain .next-end e k inside p ∙ f .here e q;
+    spreads = spreads-on (spreads-on (rw q at (f .spreads)) done) (passing (λ s. skip _ _ _ s (λ k m l n r. omega (arith, chain .next-last e k inside l (r ∙ sym (f .here e q))))));
+  }
+    where
+      inside : e < g .t
+      inside = omega arith
+
+-- ---- what an arc lacks, as the code reads its three numbers
+
+-- len is the length that `length_left` gives it
+abbrev pub Long : ℤ → ℤ → ℤ → ℕ → Type 0
+Long cost near far len = len + (dn (rd near) + dn (rd cost)) ≡ dn (rd far) + up (rd cost)
+
+module _ {cost near far : ℤ} (k : Lacks cost near far) where
+  cost-back : rd cost ≡ cost
+  cost-back = back (within cost 1000000 (omega arith) (omega arith))
+
+  near-back : rd near ≡ near
+  near-back = back (within near 256000000 (omega arith) (omega arith))
+
+  far-back : rd far ≡ far
+  far-back = back (within far 256000000 (omega arith) (omega arith))
+
+  pub read : Lacks (rd cost) (rd near) (rd far)
+  read = rw (cost-back, near-back, far-back) k
+
+  pub measured : (len : ℕ) → Long cost near far len → (len + (dn near + dn cost) ≡ dn far + up cost) × (len ≤ 257000000)
+  measured len is = let long : len + (dn near + dn cost) ≡ dn far + up cost = rw (near-back, cost-back, far-back) at is in (long, omega arith)
+
+-- ---- one link: the arc out of u along dropped candidate e, or back along kept candidate e
+
+-- no candidate is both: where there is no arc, the link is done
+one-side : {x : Bool} → x ≡ false → x ≡ true → ⊥
+one-side out stays = of-yes (sym out ∙ stays)
+
+pub along-none : {g : Ground} {u e : ℕ} {label by from : List ℕ} → g .x e ≡ true → Spreads g (DroppedFrom (suc e)) (DroppedFrom e) u label by from label by from
+along-none stays = passing (λ s. chain-step-along s (λ l out. absurd (one-side out stays)))
+
+pub back-none : {g : Ground} {u e : ℕ} {label by from : List ℕ} → g .x e ≡ false → Spreads g (KeptFrom (suc e)) (KeptFrom e) u label by from label by from
+back-none out = passing (λ s. chain-step-back s (λ l stays. absurd (one-side out stays)))
+
+module _
+    {cells t : ℕ}
+    {lo hi : List ℕ}
+    {cost : List ℤ}
+    {kept : List Bool}
+    {room : List ℕ}
+    {dist : List ℤ}
+    (ready : Ready cells t lo hi cost kept room dist)
+    {e : ℕ}
+    (l : e < t) where
+  pub two-ends : (at lo e < at hi e) × (at hi e ≤ cells)
+  two-ends = (ready .proper .some-cell e l, ready .proper .in-row e l)
+
+  cost-is : rd (getD cost e (pos 0)) ≡ getD cost e (pos 0)
+  cost-is = back (within (getD cost e (pos 0)) 1000000 (omega arith) (omega (arith, ready .costs .not-above e l, ready .costs .upto e l)))
+
+  -- the cost as the code reads it, and turned round for the way back
+  pub small : (up (rd (getD cost e (pos 0))) ≤ 1000000) × (dn (rd (getD cost e (pos 0))) ≤ 1000000)
+  small = rw cost-is (omega (arith, ready .costs .not-above e l, ready .costs .upto e l))
+
+  lacks : {v w : ℕ} {z : ℤ} → v ≤ cells → w ≤ cells → up z ≤ 1000000 → dn z ≤ 1000000 → depth dist v + dn z ≤ depth dist w + up z → Lacks z (getD dist v (pos 0)) (getD dist w (pos 0))
+  lacks {v} {w} i j high low deep =
+      omega (arith, ready .dists .not-above v (omega arith), ready .dists .upto v (omega arith), ready .dists .not-above w (omega arith), ready .dists .upto w (omega arith))
+
+  pub along-lacks : {u : ℕ} → flag kept e ≡ false → at lo e ≡ u → Lacks (getD cost e (pos 0)) (getD dist u (pos 0)) (getD dist (at hi e) (pos 0))
+  along-lacks out q =
+      lacks (omega (arith, two-ends)) (omega (arith, two-ends)) (omega (arith, ready .costs .not-above e l)) (ready .costs .upto e l)
+      (omega (arith, ready .deep .dropped e l out, ap (depth dist) q))
+
+  turned : {z : ℤ} → z ≡ pos 0 -ℤ rd (getD cost e (pos 0)) → Neg (getD cost e (pos 0)) z
+  turned is = rw (is, cost-is) (neg (getD cost e (pos 0)))
+
+  pub back-lacks : {u : ℕ} {z : ℤ} → z ≡ pos 0 -ℤ rd (getD cost e (pos 0)) → flag kept e ≡ true → at hi e ≡ u → Lacks z (getD dist u (pos 0)) (getD dist (at lo e) (pos 0))
+  back-lacks is stays q =
+      lacks (omega (arith, two-ends)) (omega (arith, two-ends)) (omega (arith, turned is, ready .costs .upto e l)) (omega (arith, turned is, ready .costs .not-above e l))
+      (omega (arith, turned is, ready .deep .paid e l stays, ap (depth dist) q, ready .costs .not-above e l))
+
+  pub along-done :
+      {u : ℕ} {label by from label′ by′ from′ : List ℕ} (len : ℕ) → flag kept e ≡ false → at lo e ≡ u →
+      Long (getD cost e (pos 0)) (getD dist u (pos 0)) (getD dist (at hi e) (pos 0)) len → Relaxation label by from label′ by′ from′ (at hi e) (at label u + len) u e →
+      Spreads (groundIn cells t lo hi cost kept room dist) (DroppedFrom (suc e)) (DroppedFrom e) u label by from label′ by′ from′
+  along-done {u} len out q is r =
+      relaxing len (ready .deep) (ready .proper) (r .label-in) (r .arc-in) (r .origin-in) r (along-arc len l out (sym q) refl long)
+      (λ arc less same. spread-relaxed (ready .proper) (omega (arith, two-ends)) arc less same)
+      (λ d near s. chain-step-along s (λ _ _ _. omega (arith, long)))
+    where
+      long : len + (depth dist u + depth cost e) ≡ depth dist (at hi e)
+      long = omega (arith, measured (along-lacks out q) len is, ready .costs .not-above e l)
+
+  pub back-done :
+      {u : ℕ} {z : ℤ} {label by from label′ by′ from′ : List ℕ} (len : ℕ) → z ≡ pos 0 -ℤ rd (getD cost e (pos 0)) → flag kept e ≡ true → at hi e ≡ u →
+      Long z (getD dist u (pos 0)) (getD dist (at lo e) (pos 0)) len → Relaxation label by from label′ by′ from′ (at lo e) (at label u + len) u e →
+      Spreads (groundIn cells t lo hi cost kept room dist) (KeptFrom (suc e)) (KeptFrom e) u label by from label′ by′ from′
+  back-done {u} len turn stays q is r =
+      relaxing len (ready .deep) (ready .proper) (r .label-in) (r .arc-in) (r .origin-in) r (back-arc len l stays (sym q) refl long)
+      (λ arc less same. spread-relaxed (ready .proper) (omega (arith, two-ends)) arc less same)
+      (λ d near s. chain-step-back s (λ _ _ _. omega (arith, long)))
+    where
+      long : len + depth dist u ≡ depth dist (at lo e) + depth cost e
+      long = omega (arith, measured (back-lacks turn stays q) len is, turned turn, ready .costs .not-above e l)

@@ -1,0 +1,141 @@
+-- The four ways out of an insertion, on the arrays: the candidate is kept at once, is worth no more than its cells' prices, is kept by a walk
+-- back, or no way back is short enough. Each ends with the row standing, with one candidate more. Assumes nothing.
+use mathlib.Core.Bool.{Bool, true, false}
+use mathlib.Core.List.{List}
+use mathlib.Core.Path.{_≡_}
+use Prim.Native.Nat.{ℕ, suc, _+_, _-_, _≤_, _<_}
+use native.Mathlib.Omega.{arith}
+use lib.ListN.{getD, length, set}
+use lib.Seq.{getD-set-same, getD-set-other}
+use lib.IntN.{ℤ, pos}
+use mir.Syntax.{w64}
+use mir.Val.{SFits}
+use Rattle.signed.specs.Parts.{dn}
+use Rattle.signed.specs.Bits.{rd, back}
+use Rattle.flow.specs.Balanced.{Balanced}
+use Rattle.flow.specs.Certificate.{cost-depth, dropped-at-once}
+use Rattle.flow.specs.Insert.{insert-free, insert-dropped, insert-walks}
+use Rattle.flow.specs.Raise.{raised, raised-upto}
+use Rattle.flow.specs.Walking.{between}
+use Rattle.planrow.specs.Bare.{proper-limited, deep-limited, reached-limited, unreached-limited}
+use Rattle.planrow.specs.Fewer.{proper-fewer, below-fewer}
+use Rattle.planrow.specs.SameDepths.{balanced-same}
+use Rattle.planrow.specs.State.{at, flag, depth, rowIn, groundIn, Ready, Deepened, Gains, Searched, Standing, CanInsert, CanWalk}
+
+-- what candidate t gains at these distances, over its cells' prices
+abbrev pub gainIn : ℕ → List ℕ → List ℕ → List ℤ → List ℤ → ℕ
+gainIn t lo hi cost dist = depth dist (at lo t) + depth cost t - depth dist (at hi t)
+
+module _ {cells t : ℕ} {lo hi : List ℕ} {cost : List ℤ} {kept : List Bool} {room : List ℕ} {dist : List ℤ} {headLo nextLo headHi nextHi : List ℕ}
+    (w : CanInsert cells t lo hi cost kept room dist headLo nextLo headHi nextHi)
+  where
+    -- ---- what the calls ask
+
+    -- its ends are nodes
+    pub inside : at hi t ≤ cells
+    inside = w .proper .in-row t (omega arith)
+
+    ordered : at lo t < at hi t
+    ordered = w .proper .some-cell t (omega arith)
+
+    pub first-in : at lo t ≤ cells
+    first-in = omega (arith, ordered, inside)
+
+    pub ready : Ready cells t lo hi cost kept room dist
+    ready = record {
+      cells-upto = w .cells-upto;
+      t-upto = omega arith;
+      proper = proper-fewer (omega arith) (w .proper);
+      costs = below-fewer (omega arith) (omega arith) (w .costs);
+      dists = below-fewer (omega arith) (omega arith) (w .standing .dists);
+      deep = deep-limited (w .standing .balanced .deep);
+    }
+
+    gains : Gains (getD cost t (pos 0)) (getD dist (at lo t) (pos 0)) (getD dist (at hi t) (pos 0))
+    gains = record {
+      cost-not-above = w .costs .not-above t (omega arith);
+      cost-low = w .costs .upto t (omega arith);
+      near-not-above = ready .dists .not-above (at lo t) (omega (arith, first-in));
+      near-low = ready .dists .upto (at lo t) (omega (arith, first-in));
+      far-not-above = ready .dists .not-above (at hi t) (omega (arith, inside));
+      far-low = ready .dists .upto (at hi t) (omega (arith, inside));
+    }
+
+    -- the same of the numbers as the code reads them, and what the code makes of them
+    module _ (cost-fits : SFits w64 (getD cost t (pos 0))) (near-fits : SFits w64 (getD dist (at lo t) (pos 0))) (far-fits : SFits w64 (getD dist (at hi t) (pos 0))) where
+      pub gains-read : Gains (rd (getD cost t (pos 0))) (rd (getD dist (at lo t) (pos 0))) (rd (getD dist (at hi t) (pos 0)))
+      gains-read = rw (back cost-fits, back near-fits, back far-fits) gains
+
+      pub gain-read : {gain : ℕ} → gain ≡ dn (rd (getD dist (at lo t) (pos 0))) + dn (rd (getD cost t (pos 0))) - dn (rd (getD dist (at hi t) (pos 0))) → gain ≡ gainIn t lo hi cost dist
+      gain-read is = rw (back cost-fits, back near-fits, back far-fits) at is
+
+    -- a candidate gains at most its profit, since the row deepens from its first node to its last
+    pub gain-upto : gainIn t lo hi cost dist ≤ 1000000
+    gain-upto =
+        omega (
+          arith,
+          cost-depth (rowIn (w .limit) (w .count) cells lo hi cost) (w .standing .balanced .deep .rises) t (omega (arith, ordered)) inside,
+          w .costs .upto t (omega arith),
+        )
+
+    -- ---- the new flag
+
+    own : {v : Bool} → length kept ≡ 256 → flag (set kept t v) t ≡ v
+    own long = getD-set-same kept t _ false (omega arith)
+
+    others : (v : Bool) (i : ℕ) → i < t → flag (set kept t v) i ≡ flag kept i
+    others v i l = getD-set-other kept t i v false (λ q. omega arith)
+
+    -- ---- the four ways
+
+    -- every cell of it has room
+    pub kept-at-once : {room′ : List ℕ} → length kept ≡ 256 → ((j : ℕ) → at lo t ≤ j → j < at hi t → 0 < at room j) → ((j : ℕ) → at room′ j + between (at lo t) (at hi t) j ≡ at room j) →
+        Standing (w .limit) (w .count) cells (suc t) lo hi cost (set kept t true) room′ dist
+    kept-at-once long free taken = record {
+      balanced = insert-free (proper-limited (w .proper)) (w .standing .balanced) (others true) (own long) free (λ j l. taken j);
+      dists = below-fewer (omega arith) (omega arith) (w .standing .dists);
+    }
+
+    -- it gains nothing
+    pub dropped-unasked : length kept ≡ 256 → gainIn t lo hi cost dist ≡ 0 → Standing (w .limit) (w .count) cells (suc t) lo hi cost (set kept t false) room dist
+    dropped-unasked long worthless = record {
+      balanced = dropped-at-once (w .standing .balanced) (others false) (own long) (omega arith);
+      dists = below-fewer (omega arith) (omega arith) (w .standing .dists);
+    }
+
+    -- what is balanced at the depths after a search stands at the distances that the search leaves
+    deepened : {to : ℕ} {label : List ℕ} {kept′ : List Bool} {room′ : List ℕ} {dist′ : List ℤ} → to ≤ 1000000 → Deepened cells to label dist dist′ →
+        Balanced (rowIn (w .limit) (w .count) cells lo hi cost) (suc t) (flag kept′) (at room′) (raised to (depth dist) (at label)) → Standing (w .limit) (w .count) cells (suc t) lo hi cost kept′ room′ dist′
+    deepened {label} small deeper b = record {
+      balanced = balanced-same (proper-limited (w .proper)) (deeper .deeper) b;
+      dists = record {
+        not-above = λ i l. deeper .not-above i (omega arith);
+        upto = λ i l. omega (arith, deeper .deeper i (omega arith), raised-upto {cells = cells} {v = i} (at label) (λ v h. w .standing .dists .upto v (omega arith)) small (omega arith));
+      };
+    }
+
+    module _ {gain : ℕ} (long : length kept ≡ 256) (is : gain ≡ gainIn t lo hi cost dist) (some : gain ≡ 0 → ⊥) where
+      -- no way back is short enough
+      pub dropped-after : {label rank by from : List ℕ} {found : Bool} {dist′ : List ℤ} → Searched (groundIn cells t lo hi cost kept room dist) (at lo t) (at hi t) gain label rank by from found → found ≡ false → Deepened cells gain label dist dist′ →
+          Standing (w .limit) (w .count) cells (suc t) lo hi cost (set kept t false) room dist′
+      dropped-after s miss deeper = deepened (omega (arith, gain-upto)) deeper (insert-dropped (proper-limited (w .proper)) (w .standing .balanced) (omega arith) (others false) (unreached-limited (s .unreached miss)) (own long))
+
+      -- a way back was found: it can be walked
+      pub walkable : {label rank by from : List ℕ} {found : Bool} → Searched (groundIn cells t lo hi cost kept room dist) (at lo t) (at hi t) gain label rank by from found → found ≡ true → CanWalk (set kept t true) room rank by from (at lo t) (at hi t)
+      walkable {label} s hit = record {
+        row = rowIn (w .limit) (w .count) cells lo hi cost;
+        t = suc t;
+        N = raised (at label (at lo t)) (depth dist) (at label);
+        cells-upto = w .cells-upto;
+        t-upto = w .t-upto;
+        proper = proper-limited (w .proper);
+        limits = w .limits;
+        walking = insert-walks (proper-limited (w .proper)) (w .standing .balanced) (omega arith) (others true) (reached-limited (s .reached hit)) (own long);
+      }
+
+      -- and once it is walked the row stands
+      pub kept-by-walk : {label rank by from : List ℕ} {found : Bool} {kept′ : List Bool} {room′ : List ℕ} {dist′ : List ℤ} →
+          Searched (groundIn cells t lo hi cost kept room dist) (at lo t) (at hi t) gain label rank by from found → found ≡ true → Deepened cells (at label (at lo t)) label dist dist′ →
+          ((v : CanWalk (set kept t true) room rank by from (at lo t) (at hi t)) → Balanced (v .row) (v .t) (flag kept′) (at room′) (v .N)) → Standing (w .limit) (w .count) cells (suc t) lo hi cost kept′ room′ dist′
+      unfolding walkable
+      kept-by-walk s hit deeper walked = deepened (omega (arith, gain-upto, s .reached hit .shorter)) deeper (walked (walkable s hit))

@@ -1,0 +1,86 @@
+-- Room on the cells between two nodes: seen to be there cell by cell, and taken cell by cell, so that the cells passed have one less and the
+-- others are as before. Assumes nothing.
+use mathlib.Core.Path.{_≡_, refl}
+use mathlib.Core.Bool.{Bool, true, false, _&&_}
+use mathlib.Core.List.{List, [], _∷_}
+use mathlib.Core.Logic.{⊎-elim}
+use Prim.Native.Nat.{ℕ, zero, suc, _+_, _-_, _≤_, _<_, min}
+use native.Mathlib.Omega.{arith}
+use borrow.Author.Tests.{le-leb, lt-ltb, leb-true, ltb-true}
+use lib.Dec.{leb, ltb}
+use lib.ListN.{length, set}
+use lib.Seq.{getD-set-same, getD-set-other}
+use Rattle.sums.specs.Each.{same-or-not}
+use Rattle.sums.specs.Sums.{bit, bit-le}
+use Rattle.flow.specs.Walking.{between}
+use Rattle.flow.specs.WalkSteps.{between-none, between-join}
+use Rattle.planrow.specs.State.{at}
+
+-- every cell from a to i - 1 has room
+pub record RoomTo (a i : ℕ) (room : List ℕ) : Type 0 where
+  pub some : (j : ℕ) → a ≤ j → j < i → 0 < at room j
+
+pub room-none : (a : ℕ) (room : List ℕ) → RoomTo a a room
+room-none a room = record { some = λ j h l. absurd (omega arith) }
+
+pub room-next : {a i : ℕ} {room : List ℕ} → RoomTo a i room → (at room i ≡ 0 → ⊥) → RoomTo a (i + 1) room
+room-next {a} {i} {room} seen here = record {
+  some = λ j h l. ⊎-elim (λ (q : j ≡ i). rw q (omega arith)) (λ n. seen .some j h (omega arith)) (same-or-not j i);
+}
+
+-- ---- taking room, one cell more
+
+-- the cells between a node and the next are one cell
+one-cell : (i : ℕ) → between i (i + 1) i ≡ 1
+unfolding between
+one-cell i = rw (le-leb i i (omega arith), lt-ltb i (i + 1) (omega arith))
+
+no-other : (i j : ℕ) → (j ≡ i → ⊥) → between i (i + 1) j ≡ 0
+unfolding between
+no-other i j n = go (leb i j) (ltb j (i + 1)) refl refl
+  where
+    go : (p q : Bool) → leb i j ≡ p → ltb j (i + 1) ≡ q → bit (p && q) ≡ 0
+    go true true e f = absurd (n (omega (arith, leb-true i j e, ltb-true j (i + 1) f)))
+    go true false e f = refl
+    go false q e f = refl
+
+pub at-most-one : (u v j : ℕ) → between u v j ≤ 1
+unfolding between
+at-most-one u v j = bit-le (leb u j && ltb j v)
+
+-- past its end an array holds 0
+inside : (xs : List ℕ) (i : ℕ) → 0 < at xs i → i < length xs
+inside [] i h = absurd (omega arith)
+inside (x ∷ xs) zero h = omega arith
+inside (x ∷ xs) (suc i) h = omega (arith, inside xs i h)
+
+-- one of room is taken on every cell from a to i - 1, as far as b
+pub record TakenTo (a b i : ℕ) (room₀ room : List ℕ) : Type 0 where
+  pub past : a ≤ i
+  pub less : (j : ℕ) → at room j + between a (min i b) j ≡ at room₀ j
+
+pub taken-none : (a b : ℕ) (room : List ℕ) → TakenTo a b a room room
+taken-none a b room = record { past = omega arith; less = λ j. omega (arith, between-none a (min a b) j (omega arith)) }
+
+pub taken-all : {a b i : ℕ} {room₀ room : List ℕ} → TakenTo a b i room₀ room → b ≤ i → (j : ℕ) → at room j + between a b j ≡ at room₀ j
+taken-all {a} {b} {i} taken l j = let m : min i b ≡ b = omega arith in rw m at (taken .less j)
+
+module _ {a b i : ℕ} {room₀ room : List ℕ} (taken : TakenTo a b i room₀ room) (l : i < b) (given : (j : ℕ) → a ≤ j → j < b → 0 < at room₀ j) where
+  before : (j : ℕ) → at room j + between a i j ≡ at room₀ j
+  before j = let m : min i b ≡ i = omega arith in rw m at (taken .less j)
+
+  one-more : (j : ℕ) → between a i j + between i (i + 1) j ≡ between a (i + 1) j
+  one-more j = between-join a i (i + 1) j (taken .past) (omega arith)
+
+  -- the cell that comes next is as it was
+  pub taken-room : 0 < at room i
+  taken-room = omega (arith, given i (taken .past) l, before i, one-more i, one-cell i, at-most-one a (i + 1) i)
+
+  pub taken-next : TakenTo a b (i + 1) room₀ (set room i (at room i - 1))
+  taken-next = record { past = omega (arith, taken .past); less = λ j. let m : min (i + 1) b ≡ i + 1 = omega arith in rw m (⊎-elim (here j) (other j) (same-or-not j i)) }
+    where
+      here : (j : ℕ) → j ≡ i → at (set room i (at room i - 1)) j + between a (i + 1) j ≡ at room₀ j
+      here j q = rw q (omega (arith, getD-set-same room i (at room i - 1) 0 (inside room i taken-room), taken-room, before i, one-more i, one-cell i))
+
+      other : (j : ℕ) → (j ≡ i → ⊥) → at (set room i (at room i - 1)) j + between a (i + 1) j ≡ at room₀ j
+      other j n = omega (arith, getD-set-other room i j (at room i - 1) 0 n, before j, one-more j, no-other i j n)

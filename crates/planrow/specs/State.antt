@@ -1,0 +1,200 @@
+-- What the arrays of the row planner hold. The flow's costs and distances are signed and never above 0: a candidate costs minus its profit,
+-- an idle cell 0, and a node's distance is minus its depth. Assumes nothing.
+use mathlib.Core.Bool.{Bool, true, false, not}
+use mathlib.Core.List.{List}
+use mathlib.Core.Path.{_≡_}
+use Prim.Native.Nat.{ℕ, suc, _+_, _*_, _-_, _≤_, _<_}
+use lib.ListN.{getD, length, set}
+use lib.IntN.{ℤ, pos}
+use Rattle.signed.specs.Parts.{up, dn}
+use Rattle.row.specs.Row.{Row}
+use Rattle.flow.specs.Balanced.{Proper, Deep, Balanced}
+use Rattle.flow.specs.Searching.{Ground, Spread, Spreading}
+use Rattle.flow.specs.SearchSteps.{Risen}
+use Rattle.flow.specs.Walking.{Walking}
+use Rattle.flow.specs.Ends.{Reached, Unreached}
+use Rattle.flow.specs.Raise.{raised}
+
+-- ---- arrays as functions
+
+abbrev pub at : List ℕ → ℕ → ℕ
+at xs i = getD xs i 0
+
+abbrev pub flag : List Bool → ℕ → Bool
+flag xs i = getD xs i false
+
+-- how far below 0 the i-th number lies
+abbrev pub depth : List ℤ → ℕ → ℕ
+depth zs i = dn (getD zs i (pos 0))
+
+-- ---- the row and the ground of a search
+
+abbrev pub rowIn : (ℕ → ℕ) → ℕ → ℕ → List ℕ → List ℕ → List ℤ → Row
+rowIn limit count cells lo hi cost = record { cells = cells; limit = limit; count = count; lo = at lo; hi = at hi; profit = depth cost }
+
+-- the search looks at neither limits nor how many candidates are still to come
+abbrev pub bare : ℕ → List ℕ → List ℕ → List ℤ → Row
+bare cells lo hi cost = rowIn (λ j. 0) 0 cells lo hi cost
+
+abbrev pub groundIn : ℕ → ℕ → List ℕ → List ℕ → List ℤ → List Bool → List ℕ → List ℤ → Ground
+groundIn cells t lo hi cost kept room dist = record { row = bare cells lo hi cost; t = t; x = flag kept; s = at room; N = depth dist }
+
+-- the numbers of a signed array up to place n are at most 0, and at least −bound
+pub record Below (zs : List ℤ) (n bound : ℕ) : Type 0 where
+  pub not-above : (i : ℕ) → i < n → up (getD zs i (pos 0)) ≡ 0
+  pub upto : (i : ℕ) → i < n → depth zs i ≤ bound
+
+-- what holds after t candidates, as far as a search needs it
+pub record Ready (cells t : ℕ) (lo hi : List ℕ) (cost : List ℤ) (kept : List Bool) (room : List ℕ) (dist : List ℤ) : Type 0 where
+  pub cells-upto : cells ≤ 127
+  pub t-upto : t ≤ 256
+  pub proper : Proper (bare cells lo hi cost) t
+  pub costs : Below cost t 1000000
+  pub dists : Below dist (suc cells) 256000000
+  pub deep : Deep (bare cells lo hi cost) t (flag kept) (at room) (depth dist)
+
+-- The candidates by one of their ends, latest first, for the first t of them: head v is 1 past the latest that has its end at node v, next i is 1 past
+-- the latest before i with the same end; 0 is none.
+pub record Chained (cells t : ℕ) (ends head next : List ℕ) : Type 0 where
+  pub head-in : (v : ℕ) → v ≤ cells → at head v ≤ t
+  pub head-end : (v i : ℕ) → v ≤ cells → at head v ≡ suc i → at ends i ≡ v
+  pub head-last : (v i : ℕ) → v ≤ cells → i < t → at ends i ≡ v → suc i ≤ at head v
+  pub next-in : (j : ℕ) → j < t → at next j ≤ j
+  pub next-end : (j i : ℕ) → j < t → at next j ≡ suc i → at ends i ≡ at ends j
+  pub next-last : (j i : ℕ) → j < t → i < j → at ends i ≡ at ends j → suc i ≤ at next j
+
+-- ---- what the functions promise
+
+-- r is the open node (rank 0) with the least label, or past the last node where no open node has a label below most
+pub record Nearest (label rank : List ℕ) (cells most r : ℕ) : Type 0 where
+  pub in-row : r ≤ suc cells
+  pub is-open : r ≤ cells → at rank r ≡ 0
+  pub shorter : r ≤ cells → at label r < most
+  pub least : r ≤ cells → (w : ℕ) → w ≤ cells → at rank w ≡ 0 → at label r ≤ at label w
+  pub none-left : r ≡ suc cells → (w : ℕ) → w ≤ cells → at rank w ≡ 0 → most ≤ at label w
+
+-- v is a place of each array, and is given the shorter label `way`, with its arc and its origin, or all stays
+pub record Relaxation (label by from label′ by′ from′ : List ℕ) (v way u arc : ℕ) : Type 0 where
+  pub label-in : v < length label
+  pub arc-in : v < length by
+  pub origin-in : v < length from
+  pub label-lower : way < at label v → label′ ≡ set label v way
+  pub by-lower : way < at label v → by′ ≡ set by v arc
+  pub from-lower : way < at label v → from′ ≡ set from v u
+  pub label-stays : at label v ≤ way → label′ ≡ label
+  pub by-stays : at label v ≤ way → by′ ≡ by
+  pub from-stays : at label v ≤ way → from′ ≡ from
+
+-- ---- how far a node has spread
+
+abbrev pub Nothing : Ground → ℕ → (ℕ → ℕ) → Type 0
+Nothing g u d = Unit {0}
+
+abbrev pub UpDone : Ground → ℕ → (ℕ → ℕ) → Type 0
+UpDone g u d = Risen g d u
+
+abbrev pub CellsDone : Ground → ℕ → (ℕ → ℕ) → Type 0
+CellsDone g u d = Spread g d u (g .t) (g .t)
+
+abbrev pub DroppedDone : Ground → ℕ → (ℕ → ℕ) → Type 0
+DroppedDone g u d = Spread g d u 0 (g .t)
+
+abbrev pub AllDone : Ground → ℕ → (ℕ → ℕ) → Type 0
+AllDone g u d = Spread g d u 0 0
+
+-- in whatever search u is spreading, it gets from one stage to the next; its own label grows no longer
+pub record Spreads (g : Ground) (Now Then : Ground → ℕ → (ℕ → ℕ) → Type 0) (u : ℕ) (label by from label′ by′ from′ : List ℕ) : Type 0 where
+  pub on : (b most : ℕ) (rank : ℕ → ℕ) (clock : ℕ) → Spreading g b most (at label) rank (at by) (at from) clock u (Now g u) → Spreading g b most (at label′) rank (at by′) (at from′) clock u (Then g u)
+  pub no-longer : at label′ u ≤ at label u
+
+-- an arc of this cost, from a node at distance `near` to one at distance `far`, cannot lower the far end
+pub record Lacks (cost near far : ℤ) : Type 0 where
+  pub cost-high : up cost ≤ 1000000
+  pub cost-low : dn cost ≤ 1000000
+  pub near-not-above : up near ≡ 0
+  pub near-low : dn near ≤ 256000000
+  pub far-not-above : up far ≡ 0
+  pub far-low : dn far ≤ 256000000
+  pub not-below : dn near + dn cost ≤ dn far + up cost
+
+-- a search begins: every node open, b at 0 and the others at most
+pub record Fresh (cells b most : ℕ) (label rank : List ℕ) : Type 0 where
+  pub root : at label b ≡ 0
+  pub others : (v : ℕ) → v ≤ cells → (v ≡ b → ⊥) → at label v ≡ most
+  pub still : (v : ℕ) → v ≤ cells → at rank v ≡ 0
+
+-- what a search comes to
+pub record Searched (g : Ground) (a b most : ℕ) (label rank by from : List ℕ) (found : Bool) : Type 0 where
+  pub reached : found ≡ true → Reached g a b most (at label) (at rank) (at by) (at from)
+  pub unreached : found ≡ false → Unreached g a b most (at label)
+
+-- every node up to the last is deepened by what its label lacks to `to`
+pub record Deepened (cells to : ℕ) (label : List ℕ) (dist dist′ : List ℤ) : Type 0 where
+  pub not-above : (v : ℕ) → v ≤ cells → up (getD dist′ v (pos 0)) ≡ 0
+  pub deeper : (v : ℕ) → v ≤ cells → depth dist′ v ≡ raised to (depth dist) (at label) v
+
+-- a walk back that can be made
+pub record CanWalk (kept : List Bool) (room rank by from : List ℕ) (a b : ℕ) : Type 0 where
+  pub row : Row
+  pub t : ℕ
+  pub N : ℕ → ℕ
+  pub cells-upto : row .cells ≤ 127
+  pub t-upto : t ≤ 256
+  pub proper : Proper row t
+  pub limits : (j : ℕ) → j < row .cells → row .limit j ≤ 1000
+  pub walking : Walking row t (flag kept) (at room) N b (at rank) (at by) (at from) a
+
+-- one arc of a walk: its number, and the room that a cell has to give or to take
+pub record CanFlip (kept : List Bool) (room : List ℕ) (e u v : ℕ) : Type 0 where
+  pub arc : e ≤ 257
+  pub up-cell : e ≡ 256 → u < 128
+  pub up-room : e ≡ 256 → at room u ≤ 2000
+  pub down-cell : e ≡ 257 → v < 128
+  pub down-room : e ≡ 257 → 0 < at room v
+
+pub record Flipped (kept : List Bool) (room : List ℕ) (kept′ : List Bool) (room′ : List ℕ) (e u v : ℕ) : Type 0 where
+  pub up-kept : e ≡ 256 → kept′ ≡ kept
+  pub up-room : e ≡ 256 → room′ ≡ set room u (at room u + 1)
+  pub down-kept : e ≡ 257 → kept′ ≡ kept
+  pub down-room : e ≡ 257 → room′ ≡ set room v (at room v - 1)
+  pub turn-kept : e < 256 → kept′ ≡ set kept e (not (flag kept e))
+  pub turn-room : e < 256 → room′ ≡ room
+
+-- the numbers that a candidate's gain is made of
+pub record Gains (cost near far : ℤ) : Type 0 where
+  pub cost-not-above : up cost ≡ 0
+  pub cost-low : dn cost ≤ 1000000
+  pub near-not-above : up near ≡ 0
+  pub near-low : dn near ≤ 256000000
+  pub far-not-above : up far ≡ 0
+  pub far-low : dn far ≤ 256000000
+
+-- every node at distance 0
+pub record Flat (cells : ℕ) (dist : List ℤ) : Type 0 where
+  pub zero : (v : ℕ) → v ≤ cells → getD dist v (pos 0) ≡ pos 0
+
+-- the planner's state after t candidates
+pub record Standing (limit : ℕ → ℕ) (count cells t : ℕ) (lo hi : List ℕ) (cost : List ℤ) (kept : List Bool) (room : List ℕ) (dist : List ℤ) : Type 0 where
+  pub balanced : Balanced (rowIn limit count cells lo hi cost) t (flag kept) (at room) (depth dist)
+  pub dists : Below dist (suc cells) (1000000 * t)
+
+-- a row that can be planned: at most 127 cells and 256 candidates, each a real interval, with a cost from −1,000,000 to 0
+pub record CanPlan (cells count : ℕ) (lo hi : List ℕ) (cost : List ℤ) (room : List ℕ) : Type 0 where
+  pub cells-upto : cells ≤ 127
+  pub count-upto : count ≤ 256
+  pub proper : Proper (bare cells lo hi cost) count
+  pub costs : Below cost count 1000000
+  pub limits : (j : ℕ) → j < cells → at room j ≤ 1000
+
+-- candidate t can be inserted: the row as it is after t candidates, with its limits
+pub record CanInsert (cells t : ℕ) (lo hi : List ℕ) (cost : List ℤ) (kept : List Bool) (room : List ℕ) (dist : List ℤ) (headLo nextLo headHi nextHi : List ℕ) : Type 0 where
+  pub cells-upto : cells ≤ 127
+  pub t-upto : t < 256
+  pub proper : Proper (bare cells lo hi cost) (suc t)
+  pub costs : Below cost (suc t) 1000000
+  pub limit : ℕ → ℕ
+  pub count : ℕ
+  pub limits : (j : ℕ) → j < cells → limit j ≤ 1000
+  pub standing : Standing limit count cells t lo hi cost kept room dist
+  pub by-lo : Chained cells t lo headLo nextLo
+  pub by-hi : Chained cells t hi headHi nextHi

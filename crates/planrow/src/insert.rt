@@ -1,0 +1,165 @@
+// Inserting one candidate, and what goes with it.
+ghost use mathlib.Core.Path.{_≡_};
+ghost use mathlib.Core.Bool.{true};
+ghost use Prim.Native.Nat.{ℕ, suc, _+_, _-_, _*_, _≤_, _<_};
+ghost use Rattle.signed.specs.Parts.{up, dn};
+ghost use Rattle.flow.specs.Walking.{between};
+ghost use Rattle.planrow.specs.State.{at, Below, Chained, Deepened, CanInsert, Standing, Gains, Flat};
+use crate::search;
+use crate::walk;
+
+// What a candidate of this cost, between nodes at these distances, would gain: 0 where it is worth no more than its cells' prices.
+pub fn gain_of(cost: i64, near: i64, far: i64) -> usize
+    requires { ⌜ Gains cost near far ⌝ }
+    ensures { λ r. ⌜ r ≡ dn near + dn cost - dn far ⌝ }
+{
+    let gain = far - near - cost;
+    if gain <= 0 {
+        return 0;
+    }
+    gain as usize
+}
+
+// Whether every cell from a to b - 1 has room.
+pub fn room_between(room: &[usize; 128], a: usize, b: usize) -> bool
+    requires { ⌜ b ≤ 128 ⌝ }
+    ensures { λ r. ⌜ (r ≡ true → (j : ℕ) → a ≤ j → j < b → 0 < at (now (room .entry)) j) ⌝ }
+{
+    let mut j = a;
+    while j < b {
+        if room[j] == 0 {
+            return false;
+        }
+        j += 1;
+    }
+    true
+}
+
+// Takes one of room on every cell from a to b - 1.
+pub fn take_room(room: &mut [usize; 128], a: usize, b: usize)
+    requires { ⌜ b ≤ 128 ⌝ }
+    requires { ⌜ ((j : ℕ) → a ≤ j → j < b → 0 < at (now room) j) ⌝ }
+    ensures { λ r. ⌜ ((j : ℕ) → at (now (room .exit)) j + between a b j ≡ at (now (room .entry)) j) ⌝ }
+{
+    let mut j = a;
+    while j < b {
+        room[j] -= 1;
+        j += 1;
+    }
+}
+
+// Every node at distance 0.
+pub fn level(dist: &mut [i64; 128], cells: usize)
+    requires { ⌜ cells ≤ 127 ⌝ }
+    ensures { λ r. ⌜ Flat cells (now (dist .exit)) ⌝ }
+{
+    let mut v = 0;
+    while v <= cells {
+        dist[v] = 0;
+        v += 1;
+    }
+}
+
+// Lowers the distance of every node whose label is below `to` by what it lacks.
+pub fn deepen(dist: &mut [i64; 128], label: &[usize; 128], cells: usize, to: usize)
+    requires { ⌜ (cells ≤ 127) × (to ≤ 1000000) ⌝ }
+    requires { ⌜ Below (now dist) (suc cells) 256000000 ⌝ }
+    ensures { λ r. ⌜ Deepened cells to (now (label .entry)) (now (dist .entry)) (now (dist .exit)) ⌝ }
+{
+    // the whole array, so that its length is known
+    let whole = &dist[..];
+    let mut v = 0;
+    while v <= cells {
+        if label[v] < to {
+            dist[v] = dist[v] - (to - label[v]) as i64;
+        }
+        v += 1;
+    }
+}
+
+// Puts candidate t at the head of the chain of its end.
+pub fn link(
+    cells: usize,
+    t: usize,
+    ends: &[usize; 256],
+    head: &mut [usize; 128],
+    next: &mut [usize; 256],
+)
+    requires { ⌜ (cells ≤ 127) × (t < 256) × (at (now ends) t ≤ cells) ⌝ }
+    requires { ⌜ Chained cells t (now ends) (now head) (now next) ⌝ }
+    ensures { λ r. ⌜ Chained cells (suc t) (now (ends .entry)) (now (head .exit)) (now (next .exit)) ⌝ }
+{
+    // the whole arrays, so that their lengths are known
+    let heads = &head[..];
+    let nexts = &next[..];
+    let v = ends[t];
+    next[t] = head[v];
+    head[v] = t + 1;
+}
+
+// Inserts candidate t.
+pub fn insert(
+    cells: usize,
+    t: usize,
+    lo: &[usize; 256],
+    hi: &[usize; 256],
+    cost: &[i64; 256],
+    kept: &mut [bool; 256],
+    room: &mut [usize; 128],
+    dist: &mut [i64; 128],
+    head_lo: &[usize; 128],
+    next_lo: &[usize; 256],
+    head_hi: &[usize; 128],
+    next_hi: &[usize; 256],
+)
+    requires { ⌜ CanInsert cells t (now lo) (now hi) (now cost) (now kept) (now room) (now dist) (now «head_lo») (now «next_lo») (now «head_hi») (now «next_hi») ⌝ }
+    ensures { λ r. ⌜ ((w : CanInsert cells t (now (lo .entry)) (now (hi .entry)) (now (cost .entry)) (now (kept .entry)) (now (room .entry)) (now (dist .entry)) (now («head_lo» .entry)) (now («next_lo» .entry)) (now («head_hi» .entry)) (now («next_hi» .entry))) → Standing (w .limit) (w .count) cells (suc t) (now (lo .entry)) (now (hi .entry)) (now (cost .entry)) (now (kept .exit)) (now (room .exit)) (now (dist .exit))) ⌝ }
+{
+    // the whole array, so that its length is known
+    let flags = &kept[..];
+    let a = lo[t];
+    let b = hi[t];
+    if room_between(room, a, b) {
+        take_room(room, a, b);
+        kept[t] = true;
+        return;
+    }
+    let gain = gain_of(cost[t], dist[a], dist[b]);
+    if gain == 0 {
+        kept[t] = false;
+        return;
+    }
+    let mut label = [0usize; 128];
+    let mut rank = [0usize; 128];
+    let mut by = [0usize; 128];
+    let mut from = [0usize; 128];
+    if search::search(
+        cells,
+        t,
+        lo,
+        hi,
+        cost,
+        kept,
+        room,
+        dist,
+        head_lo,
+        next_lo,
+        head_hi,
+        next_hi,
+        a,
+        b,
+        gain,
+        &mut label,
+        &mut rank,
+        &mut by,
+        &mut from,
+    ) {
+        let near = label[a];
+        deepen(dist, &label, cells, near);
+        kept[t] = true;
+        walk::walk_back(kept, room, &rank, &by, &from, a, b);
+        return;
+    }
+    deepen(dist, &label, cells, gain);
+    kept[t] = false;
+}
