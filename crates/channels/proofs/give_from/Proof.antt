@@ -1,0 +1,91 @@
+-- `channels::give_from` meets its contract. It is the turn of number i at node v (`Stage` of specs/Stages): one that is not kept or begins elsewhere is
+-- passed over, any other gets the lowest free channel, of which one is always left. Each turn leaves one number fewer. Assumes nothing.
+use mathlib.Core.Logic.{⊎-elim}
+use mathlib.Core.Path.{_≡_, refl, sym, _∙_}
+use Prim.Native.Nat.{ℕ, _-_, _≤_}
+use native.Mathlib.Omega.{arith}
+use Rattle.sums.specs.Each.{of-yes}
+use Rattle.channels.specs.Stages.{Stage, stage-small, stage-pass, stage-next}
+use Rattle.channels.specs.Turns.{turn-enough, turn-gives}
+use Rattle.channels.proofs.give_from.Statement.{statement}
+use Rattle.channels.proofs.give_from.Tie as tie
+
+abbrev Inv-loop : tie.InvT-loop
+Inv-loop v count k lo hi kept channel₀ i₀ channel i =
+    (i ≤ count) × ((cells : ℕ) → Stage cells count k lo hi kept channel₀ v 0 → Stage cells count k lo hi kept channel v i)
+
+abbrev μ-loop : tie.MeasureT-loop
+μ-loop v count k lo hi kept channel₀ i₀ channel i = count - i
+
+loop-holds : tie.Need-loop-holds Inv-loop μ-loop
+loop-holds c = (omega arith, λ cells s. s)
+
+element-copy-out-if1 : tie.Need-element-copy-out-if1 Inv-loop μ-loop
+element-copy-out-if1 c = omega arith
+
+mul-if2 : tie.Need-mul-if2 Inv-loop μ-loop
+mul-if2 c = omega arith
+
+element-copy-out-if2 : tie.Need-element-copy-out-if2 Inv-loop μ-loop
+element-copy-out-if2 c = omega arith
+
+lowest-past-requires : tie.Need-lowest-past-requires Inv-loop μ-loop
+lowest-past-requires c κs =
+    let here = c .before .before .before .before .before .before in
+    let stage = here .loop .inv .1 (here .before .pre .0) (here .before .pre .1) in
+    (stage-small stage, stage .can .k-upto)
+
+-- one of 1 to k is always left, so this way is not taken
+returns : tie.Need-returns Inv-loop μ-loop
+returns c =
+    let here = c .before .before .before .before .before .before .before .before in
+    let stage = here .loop .inv .1 (here .before .pre .0) (here .before .pre .1) in
+    let enough = turn-enough stage (omega arith) (c .before .before .before .before .before .if1 .taken) (c .before .before .before .if2 .taken) in
+    absurd (omega (arith, c .before .lowest-past .ensures))
+
+mul-channel : tie.Need-mul-channel Inv-loop μ-loop
+mul-channel c = omega arith
+
+element-write-channel : tie.Need-element-write-channel Inv-loop μ-loop
+element-write-channel c = omega arith
+
+add-i : tie.Need-add-i Inv-loop μ-loop
+add-i c = omega arith
+
+loop-less : tie.Need-loop-less Inv-loop μ-loop
+loop-less c = omega arith
+
+loop-again : tie.Need-loop-again Inv-loop μ-loop
+loop-again c = (
+  omega arith,
+  λ cells s.
+      let stage = c .before .before .before .loop .inv .1 cells s in
+      ⊎-elim (λ w. rw (w .6, w .4 .ensures) (turn-gives stage (omega arith) (w .0 .taken) (w .2 .taken)))
+      (⊎-elim (λ w. rw (w .3) (stage-pass stage (λ e. w .2 .left) (omega arith)))
+      (λ w. rw (w .1) (stage-pass stage (λ e. absurd (of-yes (sym (w .0 .left) ∙ e))) (omega arith))))
+      (c .if1 .came),
+)
+
+returns-2 : tie.Need-returns-2 Inv-loop μ-loop
+returns-2 c =
+    let all : c .before .loop .i ≡ c .before .before .args .count = omega arith in
+    record { all = refl; next = λ cells s. stage-next (rw all at (c .before .loop .inv .1 cells s)) }
+
+pub give-from-spec : {M : Type 1} → statement M
+give-from-spec =
+    tie.close
+    (tie.spec
+    Inv-loop
+    μ-loop
+    loop-holds
+    element-copy-out-if1
+    mul-if2
+    element-copy-out-if2
+    lowest-past-requires
+    returns
+    mul-channel
+    element-write-channel
+    add-i
+    loop-less
+    loop-again
+    returns-2)

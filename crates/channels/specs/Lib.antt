@@ -1,0 +1,4 @@
+pub mod HandOut
+pub mod Marks
+pub mod Stages
+pub mod Turns

@@ -1,0 +1,102 @@
+-- Channels are given in the order of the rule, by first cell, then by number. When the turn of a place in that order has come, exactly the kept ones before
+-- it have a channel, and it is the one that the rule gives them; past the last cell all kept ones are before, so they follow the rule. Assumes nothing.
+use mathlib.Core.Bool.{Bool, true, false}
+use mathlib.Core.List.{List}
+use mathlib.Core.Logic.{⊎-elim}
+use mathlib.Core.Path.{_≡_, refl, sym, _∙_}
+use Prim.Native.Nat.{ℕ, _+_, _*_, _≤_, _<_}
+use native.Mathlib.Omega.{arith}
+use lib.ListN.{length}
+use Rattle.sums.specs.Each.{of-yes, less-or-not}
+use Rattle.sums.specs.Lowest.{lowestFree}
+use Rattle.row.specs.Row.{heldBefore}
+use Rattle.row.specs.Channels.{Ruled, rule-ext, at-most-load, ruled-exists}
+use Rattle.channels.specs.HandOut.{at, flag, rowOf, CanHandOut, Small, HandedOut}
+use Rattle.channels.specs.declared.Given.{Given}
+use Rattle.channels.specs.declared.Given.the-variants.{All}
+
+-- the place of number i at node v in the order; a number is below 256, so no node's places reach into the next one's
+abbrev pub place : ℕ → ℕ → ℕ
+place v i = v * 256 + i
+
+-- the channels by the rule: there is one such choice (`ruled-exists` and `ruled-once` of the crate row)
+abbrev pub rule : ℕ → ℕ → ℕ → List ℕ → List ℕ → List Bool → ℕ → ℕ
+rule cells count k lo hi kept = ruled-exists (rowOf cells count lo hi) k (flag kept) .0
+
+-- it is the turn of number i at node v
+pub record Stage (cells count k : ℕ) (lo hi : List ℕ) (kept : List Bool) (channel : List ℕ) (v i : ℕ) : Type 0 where
+  pub can : CanHandOut cells count k lo hi kept
+  pub long : length channel ≡ 256
+  pub given : (j : ℕ) → j < count → flag kept j ≡ true → place (at lo j) j < place v i → at channel j ≡ rule cells count k lo hi kept j
+  pub only : (j : ℕ) → j < count → 0 < at channel j → (flag kept j ≡ true) × (place (at lo j) j < place v i)
+
+-- what giving the channels of node v comes to; the number of cells plays no part in it, so it is said for each
+pub record Turned (v count k : ℕ) (lo hi : List ℕ) (kept : List Bool) (old : List ℕ) (given : Given) (new : List ℕ) : Type 0 where
+  pub all : given ≡ All
+  pub next : (cells : ℕ) → Stage cells count k lo hi kept old v 0 → Stage cells count k lo hi kept new (v + 1) 0
+
+-- ---- what the rule gives
+
+module _ {cells count k : ℕ} {lo hi : List ℕ} {kept : List Bool} (can : CanHandOut cells count k lo hi kept) where
+  pub rule-is : Ruled (rowOf cells count lo hi) k (flag kept) (rule cells count k lo hi kept)
+  rule-is = ruled-exists (rowOf cells count lo hi) k (flag kept) .1
+
+  -- at most the load at the first cell, which is at most k
+  pub rule-upto : (i : ℕ) → i < count → flag kept i ≡ true → rule cells count k lo hi kept i ≤ k
+  rule-upto i l e =
+      let some = can .some-cell i l in
+      omega (arith, at-most-load (rowOf cells count lo hi) k (flag kept) _ rule-is i l e some, can .fits (at lo i) (omega (arith, can .in-row i l)))
+
+-- ---- from one stage to the next
+
+module _ {cells count k : ℕ} {lo hi : List ℕ} {kept : List Bool} {channel : List ℕ} {v i : ℕ} (s : Stage cells count k lo hi kept channel v i) where
+  -- a channel is 0 or the rule's
+  channel-upto : (j : ℕ) → j < count → at channel j ≤ k
+  channel-upto j l = ⊎-elim real (λ h. omega arith) (less-or-not 0 (at channel j))
+    where
+      real : 0 < at channel j → at channel j ≤ k
+      real h = let first = s .only j l h in rw (s .given j l (first .0) (first .1)) (rule-upto (s .can) j l (first .0))
+
+  pub stage-small : Small count channel
+  stage-small = record { count-upto = s .can .count-upto; below = λ j l. omega (arith, channel-upto j l, s .can .k-upto) }
+
+  -- number i is passed over: it is not kept, or begins at another node
+  pub stage-pass : (flag kept i ≡ true → at lo i ≡ v → ⊥) → i < count → Stage cells count k lo hi kept channel v (i + 1)
+  stage-pass elsewhere l = record { can = s .can; long = s .long; given = given; only = λ j lj h. let first = s .only j lj h in (first .0, omega (arith, first .1)) }
+    where
+      given : (j : ℕ) → j < count → flag kept j ≡ true → place (at lo j) j < place v (i + 1) → at channel j ≡ rule cells count k lo hi kept j
+      given j lj ej p = ⊎-elim (s .given j lj ej) (λ h. absurd (now h)) (less-or-not (place (at lo j) j) (place v i))
+        where
+          now : place v i ≤ place (at lo j) j → ⊥
+          now h =
+              let same : j ≡ i = omega (arith, s .can .count-upto) in
+              let begins : at lo j ≡ v = omega (arith, s .can .count-upto) in
+              elsewhere (rw same at ej) (rw same at begins)
+
+module _ {cells count k : ℕ} {lo hi : List ℕ} {kept : List Bool} {channel : List ℕ} where
+  pub stage-start : CanHandOut cells count k lo hi kept → length channel ≡ 256 → ((j : ℕ) → j < count → at channel j ≡ 0) → Stage cells count k lo hi kept channel 0 0
+  stage-start can long none = record { can = can; long = long; given = λ j l e p. absurd (omega arith); only = λ j l h. absurd (omega (arith, none j l)) }
+
+  -- every number had its turn at node v
+  pub stage-next : {v : ℕ} → Stage cells count k lo hi kept channel v count → Stage cells count k lo hi kept channel (v + 1) 0
+  stage-next s = record {
+    can = s .can;
+    long = s .long;
+    given = λ j l e p. s .given j l e (omega (arith, s .can .count-upto));
+    only = λ j l h. let first = s .only j l h in (first .0, omega (arith, first .1, s .can .count-upto));
+  }
+
+  -- every kept one begins before the last node
+  pub stage-end : Stage cells count k lo hi kept channel cells 0 → HandedOut cells count k lo hi kept All channel
+  stage-end s = record { all = refl; ruled = record { is = is }; upto = channel-upto s; none = none }
+    where
+      every : (j : ℕ) → j < count → flag kept j ≡ true → at channel j ≡ rule cells count k lo hi kept j
+      every j l e = s .given j l e (omega (arith, s .can .some-cell j l, s .can .in-row j l, s .can .count-upto))
+
+      is : (i : ℕ) → i < count → flag kept i ≡ true → at channel i ≡ lowestFree k (heldBefore (rowOf cells count lo hi) (flag kept) (at channel) i)
+      is i l e =
+          every i l e ∙ rule-is (s .can) .is i l e
+          ∙ rule-ext (rowOf cells count lo hi) (flag kept) k _ (at channel) i (record { at = λ j lj ej b. sym (every j lj ej) })
+
+      none : (i : ℕ) → i < count → flag kept i ≡ false → at channel i ≡ 0
+      none i l e = ⊎-elim (λ h. absurd (of-yes (sym e ∙ s .only i l h .0))) (λ h. omega arith) (less-or-not 0 (at channel i))

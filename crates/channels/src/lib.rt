@@ -1,0 +1,138 @@
+// Channels for a kept set on a row, by the rule of document 01 ("What the planner hands back"): by first cell, then by number, each takes the lowest
+// channel that no earlier one that shares a cell holds.
+ghost use mathlib.Core.Path.{_≡_};
+ghost use mathlib.Core.Bool.{false};
+ghost use Prim.Native.Nat.{ℕ, _≤_, _<_};
+ghost use lib.ListN.{getD, length};
+ghost use Rattle.sums.specs.Lowest.{lowestFree};
+ghost use Rattle.channels.specs.HandOut.{CanHandOut, HandedOut, Small, heldOver};
+ghost use Rattle.channels.specs.Stages.{Stage, Turned};
+
+// Whether every kept one has a channel, or the one that finds none of 1 to k left (refusal 15).
+pub enum Given {
+    All,
+    NoneLeft(usize),
+}
+
+// Marks, of the channels 1 to 127, those that one of the first `count` holds which reaches past node `from`.
+fn mark_held(
+    count: usize,
+    hi: &[usize; 256],
+    channel: &[usize; 256],
+    from: usize,
+    held: &mut [bool; 128],
+)
+    requires { ⌜ Small count (now channel) ⌝ }
+    requires { ⌜ length (now held) ≡ 128 ⌝ }
+    requires { ⌜ ((c : ℕ) → getD (now held) c false ≡ false) ⌝ }
+    ensures { λ r. ⌜ ((c : ℕ) → 1 ≤ c → getD (now (held .exit)) c false ≡ heldOver count (now (hi .entry)) (now (channel .entry)) from c) ⌝ }
+{
+    let mut j = 0;
+    while j < count {
+        let c = channel[j];
+        if c != 0 {
+            if from < hi[j] {
+                held[c] = true;
+            }
+        }
+        j += 1;
+    }
+}
+
+// The lowest of the channels 1 to k that is not marked, or k + 1.
+fn lowest_in(k: usize, held: &[bool; 128]) -> usize
+    requires { ⌜ k ≤ 96 ⌝ }
+    ensures { λ r. ⌜ r ≡ lowestFree k (λ c. getD (now (held .entry)) c false) ⌝ }
+{
+    let mut c = 1;
+    while c <= k {
+        if !held[c] {
+            return c;
+        }
+        c += 1;
+    }
+    c
+}
+
+// The lowest of the channels 1 to k that none of the first `count` holds which reaches past node `from`, or k + 1.
+fn lowest_past(
+    count: usize,
+    k: usize,
+    hi: &[usize; 256],
+    channel: &[usize; 256],
+    from: usize,
+) -> usize
+    requires { ⌜ Small count (now channel) ⌝ }
+    requires { ⌜ k ≤ 96 ⌝ }
+    ensures { λ r. ⌜ r ≡ lowestFree k (heldOver count (now (hi .entry)) (now (channel .entry)) from) ⌝ }
+{
+    let mut held = [false; 128];
+    mark_held(count, hi, channel, from, &mut held);
+    lowest_in(k, &held)
+}
+
+// Gives those kept ones that begin at node v their channels, by number: it is the turn of node v, on a row of some number of cells, and then of v + 1.
+fn give_from(
+    v: usize,
+    count: usize,
+    k: usize,
+    lo: &[usize; 256],
+    hi: &[usize; 256],
+    kept: &[bool; 256],
+    channel: &mut [usize; 256],
+) -> Given
+    requires { ⌜ ((cells : ℕ) × Stage cells count k (now lo) (now hi) (now kept) (now channel) v 0) ⌝ }
+    ensures { λ r. ⌜ Turned v count k (now (lo .entry)) (now (hi .entry)) (now (kept .entry)) (now (channel .entry)) r (now (channel .exit)) ⌝ }
+{
+    let mut i = 0;
+    while i < count {
+        if kept[i] {
+            if lo[i] == v {
+                let c = lowest_past(count, k, hi, channel, v);
+                if k < c {
+                    return Given::NoneLeft(i);
+                }
+                channel[i] = c;
+            }
+        }
+        i += 1;
+    }
+    Given::All
+}
+
+// Gives each of the first `count` the channel 0, which is none. It takes a slice, since lending the array as one tells how long it is.
+fn clear(count: usize, channel: &mut [usize])
+    requires { ⌜ count ≤ length (now channel) ⌝ }
+    ensures { λ r. ⌜ ((j : ℕ) → j < count → getD (now (channel .exit)) j 0 ≡ 0) ⌝ }
+{
+    let mut j = 0;
+    while j < count {
+        channel[j] = 0;
+        j += 1;
+    }
+}
+
+// Gives every kept one of the first `count` its channel, and every other one 0.
+pub fn hand_out(
+    cells: usize,
+    count: usize,
+    k: usize,
+    lo: &[usize; 256],
+    hi: &[usize; 256],
+    kept: &[bool; 256],
+    channel: &mut [usize; 256],
+) -> Given
+    requires { ⌜ CanHandOut cells count k (now lo) (now hi) (now kept) ⌝ }
+    ensures { λ r. ⌜ HandedOut cells count k (now (lo .entry)) (now (hi .entry)) (now (kept .entry)) r (now (channel .exit)) ⌝ }
+{
+    clear(count, channel);
+    let mut v = 0;
+    while v < cells {
+        let given = give_from(v, count, k, lo, hi, kept, channel);
+        let Given::All = given else {
+            return given;
+        };
+        v += 1;
+    }
+    Given::All
+}
