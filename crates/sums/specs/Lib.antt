@@ -5,3 +5,4 @@ pub mod Lowest
 pub mod Pigeons
 pub mod Tests
 pub mod Greatest
+pub mod Filled
