@@ -1,0 +1,138 @@
+-- `reader::read_book` meets its contract. Each way out is one law: the network refused, a span refused, or the requests read in the part that
+-- follows the spans, whose answer is the book's. Assumes nothing.
+use mathlib.Core.Path.{refl, sym, _∙_}
+use Prim.Native.Nat.{_+_, _*_, _≤_}
+use native.Mathlib.Omega.{arith}
+use denote.Ref.{now}
+use lib.ListN.{length}
+use Rattle.reader.specs.Series.{the-refusal, no-other}
+use Rattle.reader.specs.WaysOut.{network-refused, got-network}
+use Rattle.reader.specs.Whole.{Begun, begun, not-read, refused-in-spans, part-starts, book-read}
+use borrow.Author.Needs.{needs}
+use Rattle.reader.proofs.read_book.Statement.{statement}
+use Rattle.reader.proofs.read_book.Tie as tie
+
+network-at-requires : tie.Need-network-at-requires
+network-at-requires c κs = search needs
+
+enum-known-reading : tie.Need-enum-known-reading
+enum-known-reading c = search needs
+
+enum-told : tie.Need-enum-told
+enum-told c = search needs
+
+refusal-of-requires : tie.Need-refusal-of-requires
+refusal-of-requires c κs = search needs
+
+nothing-requires : tie.Need-nothing-requires
+nothing-requires c κs = search needs
+
+returns : tie.Need-returns
+returns c =
+    let told = c .before .before in
+    not-read _ _ _ _ (c .nothing .ensures) refl
+    (network-refused _ _ (the-refusal _ _ _ _ (told .before .before .network-at .ensures) (told .enum-told .given .1) (c .before .refusal-of .ensures)))
+
+enum-known-got : tie.Need-enum-known-got
+enum-known-got c = search needs
+
+nothing-requires-2 : tie.Need-nothing-requires-2
+nothing-requires-2 c κs = search needs
+
+returns-2 : tie.Need-returns-2
+returns-2 c =
+    let reading = c .before .before .before in
+    absurd
+    (no-other 0 1 2 tt tt
+    (rw (got-network _ _ (sym (reading .before .before .network-at .ensures) ∙ reading .reading .given .1)) at (c .before .match2 .keys2)))
+
+-- the network was got, and its spans counted
+counted : (c : tie.After-spans-of) → Begun (now (c .before .before .before .before .before .before .before .before .before .args .file)) (c .before .before .got .given .0 .0) (c .spans-of .result)
+counted c =
+    let kind = c .before .before in
+    let reading = kind .before .before .before in
+    begun _ _ _ _ _ (reading .before .before .network-at .ensures) (reading .reading .given .1) (kind .got .given .1) (c .spans-of .ensures)
+
+at-most : (c : tie.After-spans-of) → c .spans-of .result ≤ 64
+at-most c = omega (arith, counted c .n-is, counted c .head .most)
+
+-- the spans were got too, so that the part after them starts in the file
+starts :
+    (c : tie.After-limits)
+    → 16 * (1 + c .before .before .before .before .spans-of .result) ≤ length (now (c .before .before .before .before .before .before .before .before .before .before .before .before .before .args .file))
+starts c =
+    let call = c .before .before .before in
+    part-starts _ _ _ (counted (call .before)) _ (call .read-spans .ensures) _ (c .before .enum-told2 .given .1)
+
+spans-of-requires : tie.Need-spans-of-requires
+spans-of-requires c κs = search needs
+
+read-spans-requires : tie.Need-read-spans-requires
+read-spans-requires c κs = at-most c
+
+enum-told-2 : tie.Need-enum-told-2
+enum-told-2 c = search needs
+
+enum-told-3 : tie.Need-enum-told-3
+enum-told-3 c = search needs
+
+nothing-requires-3 : tie.Need-nothing-requires-3
+nothing-requires-3 c κs = search needs
+
+returns-3 : tie.Need-returns-3
+returns-3 c =
+    let call = c .before .before .before in
+    let refused = c .before .enum-told3 .given .1 in
+    not-read _ _ _ _ (c .nothing3 .ensures) refused
+    (refused-in-spans _ _ _ (counted (call .before)) _ (call .read-spans .ensures) _ refused)
+
+add-before : tie.Need-add-before
+add-before c = omega (arith, at-most (c .before .before .before .before))
+
+mul-at : tie.Need-mul-at
+mul-at c = omega (arith, at-most (c .before .before .before .before))
+
+sub-read-requests : tie.Need-sub-read-requests
+sub-read-requests c = starts c
+
+part-read-requests-start : tie.Need-part-read-requests-start
+part-read-requests-start c = starts c
+
+part-read-requests-end : tie.Need-part-read-requests-end
+part-read-requests-end c = search needs
+
+read-requests-requires : tie.Need-read-requests-requires
+read-requests-requires c κs = omega (arith, at-most (c .before .before .before .before .before))
+
+returns-4 : tie.Need-returns-4
+returns-4 c =
+    let told = c .before .before .before .before in
+    let call = told .before .before in
+    book-read _ _ _ (counted (call .before)) _ (call .read-spans .ensures) _ (told .enum-told2 .given .1) _ (c .before .read-requests .ensures)
+
+pub read-book-spec : {M : Type 1} → statement M
+read-book-spec =
+    tie.close
+    (tie.spec
+    network-at-requires
+    enum-known-reading
+    enum-told
+    refusal-of-requires
+    nothing-requires
+    returns
+    enum-known-got
+    nothing-requires-2
+    returns-2
+    spans-of-requires
+    read-spans-requires
+    enum-told-2
+    enum-told-3
+    nothing-requires-3
+    returns-3
+    add-before
+    mul-at
+    sub-read-requests
+    part-read-requests-start
+    part-read-requests-end
+    read-requests-requires
+    returns-4)

@@ -1,0 +1,121 @@
+-- `reader::requests::read_requests` meets its contract: every request passed was got and stands in the list, and since a request got is one of
+-- 256 there is room for it. Assumes nothing.
+use mathlib.Core.Path.{refl}
+use Prim.Native.Nat.{_-_, _≤_, _<_}
+use native.Mathlib.Omega.{arith}
+use borrow.Author.Needs.{needs}
+use lib.ListN.{replicate}
+use Rattle.sums.specs.Each.{of-yes}
+use Rattle.book.specs.Refusals.{records}
+use Rattle.reader.specs.Series.{SoFar, no-other, so-far-none, stopped-here, all-read}
+use Rattle.reader.specs.Orders.{requestSeries, got-request, request-within, request-more}
+use Rattle.reader.proofs.requests.read_requests.Statement.{statement}
+use Rattle.reader.proofs.requests.read_requests.Tie as tie
+
+abbrev Inv-loop : tie.InvT-loop
+Inv-loop part before network nodes requests₀ count i₀ requests i = (i ≤ count) × (i ≤ 256) × SoFar (requestSeries part before nodes) requests i
+
+abbrev μ-loop : tie.MeasureT-loop
+μ-loop part before network nodes requests₀ count i₀ requests i = count - i
+
+no-request-requires : tie.Need-no-request-requires Inv-loop μ-loop
+no-request-requires c κs = search needs
+
+loop-holds : tie.Need-loop-holds Inv-loop μ-loop
+loop-holds c = (omega arith, omega arith, so-far-none _ (replicate 256 _) refl)
+
+request-at-requires : tie.Need-request-at-requires Inv-loop μ-loop
+request-at-requires c κs = omega arith
+
+enum-known-reading : tie.Need-enum-known-reading Inv-loop μ-loop
+enum-known-reading c = search needs
+
+enum-told : tie.Need-enum-told Inv-loop μ-loop
+enum-told c = search needs
+
+refusal-of-requires : tie.Need-refusal-of-requires Inv-loop μ-loop
+refusal-of-requires c κs = search needs
+
+returns : tie.Need-returns Inv-loop μ-loop
+unfolding records
+returns c =
+    let call = c .before .before .before in
+    let turn = call .before .before in
+    record {
+      within = turn .loop .inv .1;
+      all = λ t. absurd (of-yes t);
+      inList = stopped-here _ _ _ (turn .loop .i) _ _ _ _ (turn .loop .inv .2) (call .before .loop-test .taken) (call .request-at .ensures) (c .before .enum-told .given .1) (c .refusal-of .ensures);
+    }
+
+enum-known-got : tie.Need-enum-known-got Inv-loop μ-loop
+enum-known-got c = search needs
+
+add-t18 : tie.Need-add-t18 Inv-loop μ-loop
+add-t18 c = omega arith
+
+returns-2 : tie.Need-returns-2 Inv-loop μ-loop
+returns-2 c =
+    let reading = c .before .before in
+    let call = reading .before .before in
+    let turn = call .before .before in
+    absurd (no-other 2 0 1 tt tt (rw (got-request _ _ _ (turn .loop .i) _ _ (call .request-at .ensures) (reading .reading .given .1)) at (c .match2 .keys2)))
+
+-- a request got is one of 256
+in-room : (c : tie.After-known-told2 Inv-loop μ-loop) → c .before .before .before .before .before .before .before .before .loop .i < 256
+in-room c =
+    let reading = c .before .before .before .before in
+    let call = reading .before .before in
+    request-within _ _ _ _ _ _ (call .request-at .ensures) (reading .reading .given .1)
+
+mul-requests : tie.Need-mul-requests Inv-loop μ-loop
+mul-requests c = omega arith
+
+array-set-from-requests : tie.Need-array-set-from-requests Inv-loop μ-loop
+array-set-from-requests c = in-room c
+
+add-i : tie.Need-add-i Inv-loop μ-loop
+add-i c = omega arith
+
+loop-less : tie.Need-loop-less Inv-loop μ-loop
+loop-less c = omega arith
+
+loop-again : tie.Need-loop-again Inv-loop μ-loop
+loop-again c =
+    let kind = c .before in
+    let reading = kind .before .before .before in
+    let call = reading .before .before in
+    let turn = call .before .before in
+    (omega arith, omega (arith, in-room c), request-more _ _ _ _ _ _ (call .request-at .ensures) (reading .reading .given .1) _ _ (turn .loop .inv .2) (kind .got .given .1))
+
+returns-3 : tie.Need-returns-3 Inv-loop μ-loop
+unfolding records
+returns-3 c =
+    let here = c .before .loop in
+    record {
+      within = omega arith;
+      all = λ t. refl;
+      inList = all-read _ _ _ (here .i) _ (here .inv .2) (omega arith);
+    }
+
+pub read-requests-spec : {M : Type 1} → statement M
+read-requests-spec =
+    tie.close
+    (tie.spec
+    Inv-loop
+    μ-loop
+    no-request-requires
+    loop-holds
+    request-at-requires
+    enum-known-reading
+    enum-told
+    refusal-of-requires
+    returns
+    enum-known-got
+    add-t18
+    returns-2
+    mul-requests
+    array-set-from-requests
+    add-i
+    loop-less
+    loop-again
+    returns-3)

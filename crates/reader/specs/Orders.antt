@@ -1,0 +1,54 @@
+-- The request records in turn, in the part of the file that follows the spans: request i stands in record i of the part, and the list takes it.
+-- Assumes nothing.
+use mathlib.Core.Path.{_≡_, sym, ap, _∙_}
+use mathlib.Core.Bool.{true}
+use mathlib.Core.List.{List}
+use Prim.Native.Nat.{ℕ, _+_, _≤_, _<_}
+use native.Mathlib.Omega.{arith}
+use borrow.Author.Tests.{ltb-false}
+use lib.ListN.{set}
+use Rattle.book.specs.Book as B
+use Rattle.book.specs.Refusals.{records}
+use Rattle.book.specs.Reading.{requestOf}
+use Rattle.reader.specs.declared.Network.{Network}
+use Rattle.reader.specs.declared.Request.{Request}
+use Rattle.reader.specs.declared.Reading.{Reading}
+use Rattle.reader.specs.declared.Reading.the-variants.{Got}
+use Rattle.reader.specs.declared.Record.{Record}
+use Rattle.reader.specs.declared.Record.the-variants as kind
+use Rattle.reader.specs.declared.requests.Orders.{Orders}
+use Rattle.reader.specs.Says.{plain, noRequest}
+use Rattle.reader.specs.Tests.{first-passed}
+use Rattle.reader.specs.Records.{requestIn, requestRow, requestAt, answer-got}
+use Rattle.reader.specs.Series.{Series, SoFar, InList, isGot, accepted, so-far-more}
+
+abbrev pub requestSeries : List ℕ → (before nodes : ℕ) → Series Request B.Request
+requestSeries part before nodes =
+    record { says = λ i. requestAt part i before nodes; room = 256; empty = noRequest; means = plain; wants = requestOf part }
+
+pub record OrdersRead (part : List ℕ) (before : ℕ) (network : Network) (read : Orders) : Type 0 where
+  pub within : read .count ≤ 256
+  pub all : accepted (read .answer) ≡ true → read .count ≡ records part
+  pub inList : InList (requestSeries part before (network .nodes)) (records part) network (read .answer) (read .requests)
+
+-- what is got where a request is due is that request, and it is one of 256
+module _ (part : List ℕ) (before nodes i : ℕ) (r : Reading) (got : Record) (is : r ≡ requestAt part i before nodes) (e : r ≡ Got got) where
+  pub got-request : got ≡ kind.Request (requestIn part i)
+  unfolding requestAt
+  got-request = answer-got (requestRow part i nodes) (before + i) _ got (sym is ∙ e) .1
+
+  pub request-within : i < 256
+  unfolding requestAt requestRow
+  request-within = omega (arith, ltb-false 255 i (first-passed _ 8 _ (omega arith) (answer-got (requestRow part i nodes) (before + i) _ got (sym is ∙ e) .0)))
+
+  pub request-more :
+      (requests : List Request) (q : Request)
+      → SoFar (requestSeries part before nodes) requests i → got ≡ kind.Request q → SoFar (requestSeries part before nodes) (set requests i q) (i + 1)
+  unfolding requestOf
+  request-more requests q p k =
+      so-far-more (requestSeries part before nodes) requests i q p request-within (ap isGot (sym is ∙ e)) request-is
+    where
+      request-is : plain q ≡ requestOf part i
+      request-is =
+          let same : q ≡ requestIn part i = cc (got-request) in
+          ap plain same

@@ -1,0 +1,47 @@
+-- What the reader's answers mean: for every case of its enums the numbers and values of document 01. Assumes nothing.
+use mathlib.Core.Path.{_≡_}
+use mathlib.Core.List.{List, map}
+use Prim.Native.Nat.{ℕ, _≤_}
+use lib.ListN.{length, take}
+use Rattle.book.specs.Book as B
+use Rattle.book.specs.Reading.{Outcome, done, refused, reading}
+use Rattle.reader.specs.declared.Network.{Network}
+use Rattle.reader.specs.declared.Request.{Request}
+use Rattle.reader.specs.declared.Taken.{Taken}
+use Rattle.reader.specs.declared.Answer.{Answer}
+use Rattle.reader.specs.declared.Answer.the-variants.{Accepted, Refused}
+
+-- a request as the book has it
+abbrev pub plain : Request → B.Request
+plain q = record { a = q .a; b = q .b; profit = q .profit }
+
+-- an entry of the list that no request was read into
+abbrev pub noRequest : Request
+noRequest = record { number = 0; a = 0; b = 0; profit = 0 }
+
+-- the book that the parts say: the first limits, one a span, and the first `count` requests
+unfoldable pub bookFrom : Network → List ℕ → ℕ → List Request → B.Book
+bookFrom net limits count requests =
+    record {
+      shape = net .shape;
+      nodes = net .nodes;
+      channels = net .channels;
+      limits = take (B.spansOf (net .shape) (net .nodes)) limits;
+      requests = map plain (take count requests);
+    }
+
+unfoldable pub outcomeOf : Answer → List ℕ → ℕ → List Request → Outcome B.Book
+outcomeOf (Accepted net) limits count requests = done (bookFrom net limits count requests)
+outcomeOf (Refused refusal) limits count requests = refused (refusal .number) (refusal .place)
+
+-- the reader's promise: its answer is the reading of document 01
+pub record Reads (file : List ℕ) (taken : Taken) : Type 0 where
+  pub says : outcomeOf (taken .answer) (taken .limits) (taken .count) (taken .requests) ≡ reading file
+  pub counted : taken .count ≤ 256
+  pub sized : length (taken .requests) ≡ 256
+
+-- nothing was read, and this is why
+pub record Unread (answer : Answer) (taken : Taken) : Type 0 where
+  pub because : taken .answer ≡ answer
+  pub counted : taken .count ≡ 0
+  pub sized : length (taken .requests) ≡ 256

@@ -1,0 +1,152 @@
+-- The ways out of reading a book. A refused record is the first faulty one, since every record before it was got; where all were got, no record
+-- that is looked at is faulty. Assumes nothing.
+use mathlib.Core.Path.{_≡_, refl, ap, subst, _∙_}
+use mathlib.Core.Bool.{Bool, true, false, cond}
+use mathlib.Core.List.{List}
+use mathlib.Core.Logic.{inl, inr, ⊎-elim}
+use Prim.Native.Nat.{ℕ, _+_, _-_, _≤_, _<_}
+use native.Mathlib.Omega.{arith}
+use borrow.Author.Tests.{lt-ltb}
+use lib.ListN.{length, drop}
+use lib.Dec.{ltb, eqb}
+use Rattle.sums.specs.Each.{first-is, less-or-not, decided, of-yes}
+use Rattle.book.specs.Book.{spansOf}
+use Rattle.book.specs.Refusals.{start, records, shapeIn, nodesIn, channelsIn, spansIn, fault, faulty}
+use Rattle.book.specs.Reading.{done, refused, due, bookOf, faultyRecord, reading}
+use Rattle.book.specs.Laws.{unbroken, clean-read, span-looked-at, present-looked-at}
+use Rattle.book.specs.Means.{not-so}
+use Rattle.book.specs.InWords.{Row3, Row5, row-3, row-5}
+use Rattle.reader.specs.declared.Network.{Network}
+use Rattle.reader.specs.declared.Refusal.{Refusal}
+use Rattle.reader.specs.declared.Reading.{Reading}
+use Rattle.reader.specs.declared.Reading.the-variants.{Got, Refused}
+use Rattle.reader.specs.declared.Record.{Record}
+use Rattle.reader.specs.declared.Record.the-variants as kind
+use Rattle.reader.specs.Parts.{records-part}
+use Rattle.reader.specs.Records.{answer, networkIn, networkRow, networkAt, spanAt, requestAt, answer-refused, answer-got}
+use Rattle.reader.specs.Series.{AllGot, Stopped, isGot}
+use Rattle.reader.specs.Rows.{network-row, span-row, request-row}
+
+-- ---- one record
+
+-- no record before record r is faulty
+abbrev pub Clean : List ℕ → ℕ → Type 0
+Clean f r = (q : ℕ) → q < r → faulty f q ≡ false
+
+-- the first faulty record gives the refusal
+first-fault : (f : List ℕ) (r : ℕ) → r < due f → fault f r < 12 → Clean f r → reading f ≡ refused (fault f r) r
+unfolding reading faultyRecord
+first-fault f r h l clean = rw (found, lt-ltb r (due f) h)
+  where
+    found : faultyRecord f ≡ r
+    found = first-is (due f) (faulty f) r (record { from = omega arith; upto = omega arith; passed = λ q k. clean q; passes = λ k. lt-ltb (fault f r) 12 l })
+
+module _ (f : List ℕ) (row r : ℕ) (got : Record) (is : row ≡ fault f r) where
+  refused-at : (refusal : Refusal) → r < due f → Clean f r → answer row r got ≡ Refused refusal → reading f ≡ refused (refusal .number) (refusal .place)
+  refused-at refusal h clean e =
+      let w = answer-refused row r got refusal e in
+      first-fault f r h (omega (arith, w .0)) clean ∙ rw (w .1, w .2, is)
+
+  got-clean : isGot (answer row r got) ≡ true → faulty f r ≡ false
+  unfolding answer
+  got-clean e = ⊎-elim (λ t. absurd (of-yes (rw t at e))) (λ t. rw is at t) (decided (ltb row 12))
+
+-- the records got after record b
+clean-on : (f : List ℕ) (b n : ℕ) → Clean f b → ((i : ℕ) → i < n → faulty f (b + i) ≡ false) → Clean f (b + n)
+clean-on f b n before on q h = ⊎-elim (before q) (λ l. subst (λ (r : ℕ). faulty f r ≡ false) (omega arith) (on (q - b) (omega arith))) (less-or-not q b)
+
+-- ---- the network
+
+pub network-refused : (f : List ℕ) (refusal : Refusal) → networkAt f ≡ Refused refusal → reading f ≡ refused (refusal .number) (refusal .place)
+unfolding networkAt
+network-refused f refusal e = refused-at f (networkRow f) 0 _ (network-row f) refusal (span-looked-at f 0 (omega arith)) (λ q h. absurd (omega arith)) e
+
+pub got-network : (f : List ℕ) (got : Record) → networkAt f ≡ Got got → got ≡ kind.Network (networkIn f)
+unfolding networkAt
+got-network f got e = answer-got (networkRow f) 0 _ got e .1
+
+-- a line and a ring of n nodes have n − 1 spans or n
+between : (shape n : ℕ) → (n - 1 ≤ spansOf shape n) × (spansOf shape n ≤ n)
+unfolding spansOf
+between shape n = by (eqb shape 2)
+  where
+    by : (t : Bool) → (n - 1 ≤ cond t n (n - 1)) × (cond t n (n - 1) ≤ n)
+    by true = (omega arith, omega arith)
+    by false = (omega arith, omega arith)
+
+-- what is known once the network was got
+pub record Headed (f : List ℕ) : Type 0 where
+  pub clean : Clean f 1
+  pub least : 1 ≤ spansIn f
+  pub most : spansIn f ≤ 64
+
+pub headed : (f : List ℕ) (got : Record) → networkAt f ≡ Got got → Headed f
+unfolding networkAt spansIn
+headed f got e =
+    record {
+      clean = λ q h. subst (λ (r : ℕ). faulty f r ≡ false) (omega arith) whole;
+      least = omega (arith, between (shapeIn f) (nodesIn f) .0, from);
+      most = omega (arith, between (shapeIn f) (nodesIn f) .1, upto);
+    }
+  where
+    whole : faulty f 0 ≡ false
+    whole = got-clean f (networkRow f) 0 _ (network-row f) (ap isGot e)
+
+    not3 : Row3 f 0 → ⊥
+    not3 = not-so (row-3 f 0) .0 (unbroken f 0 whole 3 (omega arith))
+
+    from : 2 ≤ nodesIn f
+    from = ⊎-elim (λ l. absurd (not3 (refl, inl l))) (λ l. l) (less-or-not (nodesIn f) 2)
+
+    upto : nodesIn f ≤ 64
+    upto = ⊎-elim (λ l. absurd (not3 (refl, inr (inr l)))) (λ l. l) (less-or-not 64 (nodesIn f))
+
+-- ---- the spans
+
+abbrev pub spanSays : List ℕ → ℕ → Reading
+spanSays f s = spanAt f (1 + s) (channelsIn f)
+
+-- the part of the file that follows the span records
+abbrev pub afterSpans : List ℕ → List ℕ
+afterSpans f = drop (start (1 + spansIn f)) f
+
+abbrev pub requestSays : List ℕ → ℕ → Reading
+requestSays f i = requestAt (afterSpans f) i (1 + spansIn f) (nodesIn f)
+
+module _ (f : List ℕ) (h : Headed f) where
+  spans-clean : (n : ℕ) → n ≤ spansIn f → AllGot (spanSays f) n → Clean f (1 + n)
+  unfolding spanAt
+  spans-clean n l got = clean-on f 1 n (h .clean) (λ s k. got-clean f _ (1 + s) _ (span-row f (1 + s) (omega arith) (omega arith)) (got s k))
+
+  pub spans-refused : (refusal : Refusal) → Stopped (spanSays f) (spansIn f) refusal → reading f ≡ refused (refusal .number) (refusal .place)
+  unfolding spanAt
+  spans-refused refusal stop =
+      let r = 1 + stop .at in
+      refused-at f _ r _ (span-row f r (omega arith) (omega arith)) refusal (span-looked-at f r (omega arith)) (spans-clean (stop .at) (omega arith) (stop .before)) (stop .here)
+
+  -- ---- the requests, in the part that follows the spans
+
+  module _ (spans : AllGot (spanSays f) (spansIn f)) where
+    -- the last span is there, and with it the start of the part
+    pub part-there : start (1 + spansIn f) ≤ length f
+    unfolding start records
+    part-there = ⊎-elim (λ l. omega arith) (λ l. absurd (not5 (h .least, omega arith, inl l))) (less-or-not (spansIn f) (records f))
+      where
+        not5 : Row5 f (spansIn f) → ⊥
+        not5 = not-so (row-5 f (spansIn f)) .0 (unbroken f (spansIn f) (spans-clean (spansIn f) (omega arith) spans (spansIn f) (omega arith)) 5 (omega arith))
+
+    requests-clean : (n : ℕ) → AllGot (requestSays f) n → Clean f (1 + spansIn f + n)
+    unfolding requestAt
+    requests-clean n got =
+        clean-on f (1 + spansIn f) n (spans-clean (spansIn f) (omega arith) spans) (λ i k. got-clean f _ (1 + spansIn f + i) _ (request-row f i) (got i k))
+
+    pub requests-refused :
+        (refusal : Refusal) → Stopped (requestSays f) (records (afterSpans f)) refusal → reading f ≡ refused (refusal .number) (refusal .place)
+    unfolding requestAt
+    requests-refused refusal stop =
+        let r = 1 + spansIn f + stop .at in
+        refused-at f _ r _ (request-row f (stop .at)) refusal (present-looked-at f r (omega (arith, records-part f (1 + spansIn f)))) (requests-clean (stop .at) (stop .before)) (stop .here)
+
+    pub all-clean : AllGot (requestSays f) (records (afterSpans f)) → reading f ≡ done (bookOf f)
+    unfolding due
+    all-clean got = clean-read f (λ r k. requests-clean (records (afterSpans f)) got r (omega (arith, records-part f (1 + spansIn f))))

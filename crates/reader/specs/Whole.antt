@@ -1,0 +1,158 @@
+-- The book as it was read is the one that the file says: the lists hold what the records say, entry by entry. With the ways out of reading this
+-- gives the reader's promise. Assumes nothing.
+use mathlib.Core.Path.{_≡_, refl, sym, ap, ap₂, subst, _∙_}
+use mathlib.Core.Bool.{true}
+use mathlib.Core.List.{List, map, map-id}
+use Prim.Native.Nat.{ℕ, _+_, _-_, _*_, _≤_, _<_}
+use native.Mathlib.Omega.{arith}
+use lib.ListN.{length, getD, take, drop, length-map, List·getD-map}
+use lib.Seq.{getD-take, ext-getD, length-take-le}
+use Rattle.sums.specs.Table.{table, length-table, table-at}
+use Rattle.book.specs.Book as B
+use Rattle.book.specs.Refusals.{start, records, shapeIn, nodesIn, channelsIn, spansIn, limitIn}
+use Rattle.book.specs.Reading.{done, refused, requestOf, bookOf, reading}
+use Rattle.reader.specs.declared.Network.{Network}
+use Rattle.reader.specs.declared.Refusal.{Refusal}
+use Rattle.reader.specs.declared.Request.{Request}
+use Rattle.reader.specs.declared.Reading.{Reading}
+use Rattle.reader.specs.declared.Reading.the-variants.{Got}
+use Rattle.reader.specs.declared.Record.{Record}
+use Rattle.reader.specs.declared.Record.the-variants as kind
+use Rattle.reader.specs.declared.Answer.{Answer}
+use Rattle.reader.specs.declared.Answer.the-variants.{Accepted, Refused}
+use Rattle.reader.specs.declared.Taken.{Taken}
+use Rattle.reader.specs.declared.spans.Limits.{Limits}
+use Rattle.reader.specs.declared.requests.Orders.{Orders}
+use Rattle.reader.specs.Says.{Reads, Unread, noRequest, plain, bookFrom, outcomeOf}
+use Rattle.reader.specs.Parts.{a-part, b-part, profit-part, records-part, part-is}
+use Rattle.reader.specs.Records.{networkIn, networkAt}
+use Rattle.reader.specs.Series.{AllGot, InTurn, Filled, accepted}
+use Rattle.reader.specs.Spans.{SpansRead, spanSeries}
+use Rattle.reader.specs.Orders.{OrdersRead, requestSeries}
+use Rattle.reader.specs.WaysOut.{Headed, headed, got-network, spanSays, requestSays, part-there, afterSpans, spans-refused, requests-refused, all-clean}
+
+-- ---- the lists
+
+-- a list's first n entries, each known by what it means
+made-table :
+    {A B : Type 0} (means : A → B) (empty : A) (wants : ℕ → B) (l : List A) (n : ℕ)
+    → n ≤ length l → ((i : ℕ) → i < n → means (getD l i empty) ≡ wants i) → map means (take n l) ≡ table n wants
+made-table means empty wants l n h p =
+    ext-getD (means empty) _ _ (long ∙ sym (length-table n wants)) (λ i k. each i (omega (arith, long)))
+  where
+    long : length (map means (take n l)) ≡ n
+    long = length-map (take n l) means ∙ length-take-le n l h
+
+    each : (i : ℕ) → i < n → getD (map means (take n l)) i (means empty) ≡ getD (table n wants) i (means empty)
+    each i k =
+        List·getD-map means (take n l) i empty
+        ∙ (ap means (getD-take n l i empty k) ∙ (p i k ∙ sym (table-at n wants i (means empty) k)))
+
+limits-are :
+    (f limits : List ℕ)
+    → spansIn f ≤ length limits
+    → Filled (spanSeries f (channelsIn f)) limits (spansIn f)
+    → take (spansIn f) limits ≡ table (spansIn f) (λ s. limitIn f (1 + s))
+limits-are f limits h p = sym (map-id (take (spansIn f) limits)) ∙ made-table (λ limit. limit) 0 (λ s. limitIn f (1 + s)) limits (spansIn f) h p
+
+request-part : (f : List ℕ) (b i : ℕ) → requestOf (drop (start b) f) i ≡ requestOf f (b + i)
+unfolding requestOf
+request-part f b i = rw (a-part f b i, b-part f b i, profit-part f b i)
+
+requests-are :
+    (f : List ℕ) (b n : ℕ) (requests : List Request)
+    → n ≤ length requests
+    → Filled (requestSeries (drop (start b) f) b (nodesIn f)) requests n
+    → map plain (take n requests) ≡ table n (λ i. requestOf f (b + i))
+requests-are f b n requests h p =
+    made-table plain noRequest (λ i. requestOf f (b + i)) requests n h (λ i k. p i k ∙ request-part f b i)
+
+book-is :
+    (f limits : List ℕ) (requests : List Request)
+    → spansIn f ≤ length limits
+    → Filled (spanSeries f (channelsIn f)) limits (spansIn f)
+    → records (afterSpans f) ≤ length requests
+    → Filled (requestSeries (afterSpans f) (1 + spansIn f) (nodesIn f)) requests (records (afterSpans f))
+    → bookFrom (networkIn f) limits (records (afterSpans f)) requests ≡ bookOf f
+unfolding bookFrom bookOf spansIn
+book-is f limits requests hl pl hr pr =
+    ap₂ (λ (ls : List ℕ) (qs : List B.Request). record { shape = shapeIn f; nodes = nodesIn f; channels = channelsIn f; limits = ls; requests = qs })
+    (limits-are f limits hl pl)
+    (requests-are f (1 + spansIn f) (records (afterSpans f)) requests hr pr ∙ ap (λ (n : ℕ). table n (λ i. requestOf f (1 + spansIn f + i))) (records-part f (1 + spansIn f)))
+
+-- ---- the ways out
+
+-- a refusal
+pub not-read :
+    (f : List ℕ) (answer : Answer) (taken : Taken) (refusal : Refusal)
+    → Unread answer taken → answer ≡ Refused refusal → reading f ≡ refused (refusal .number) (refusal .place) → Reads f taken
+unfolding outcomeOf
+not-read f answer taken refusal u e r = record { says = rw (u .because, e) (sym r); counted = omega arith; sized = u .sized }
+
+-- the network was got, and has n spans
+pub record Begun (f : List ℕ) (network : Network) (n : ℕ) : Type 0 where
+  pub head : Headed f
+  pub is : network ≡ networkIn f
+  pub n-is : n ≡ spansIn f
+
+pub begun :
+    (f : List ℕ) (r : Reading) (got : Record) (network : Network) (n : ℕ)
+    → r ≡ networkAt f → r ≡ Got got → got ≡ kind.Network network → n ≡ B.spansOf (network .shape) (network .nodes) → Begun f network n
+unfolding spansIn
+begun f r got network n at e k n-of = record { head = headed f got (sym at ∙ e); is = is; n-is = n-of ∙ ap (λ (t : Network). B.spansOf (t .shape) (t .nodes)) is }
+  where
+    is : network ≡ networkIn f
+    is = cc (got-network f got (sym at ∙ e))
+
+module _ (f : List ℕ) (network : Network) (n : ℕ) (so-far : Begun f network n) (limits : Limits) (read : SpansRead f network n limits) where
+  open Begun so-far using (head, is, n-is)
+
+  -- the spans, read for the network that the file has
+  spans-read : SpansRead f (networkIn f) (spansIn f) limits
+  spans-read = subst (λ (m : ℕ). SpansRead f (networkIn f) m limits) n-is (subst (λ (net : Network). SpansRead f net n limits) is read)
+
+  pub refused-in-spans : (refusal : Refusal) → limits .answer ≡ Refused refusal → reading f ≡ refused (refusal .number) (refusal .place)
+  refused-in-spans refusal e = spans-refused f head refusal (rw e at (spans-read .turn))
+
+  module _ (net : Network) (e : limits .answer ≡ Accepted net) where
+    all-spans : AllGot (spanSays f) (spansIn f)
+    all-spans = (rw e at (spans-read .turn)) .1
+
+    pub part-starts : 16 * (1 + n) ≤ length f
+    unfolding start
+    part-starts = omega (arith, part-there f head all-spans)
+
+    pub book-read :
+        (orders : Orders)
+        → OrdersRead (take (length f - 16 * (1 + n)) (drop (16 * (1 + n)) f)) (1 + n) network orders
+        → Reads f (record { answer = orders .answer; limits = limits .limits; count = orders .count; requests = orders .requests })
+    unfolding outcomeOf start
+    book-read orders o =
+        record {
+          says = by (orders .answer) (requests-read .inList .turn) (requests-read .inList .filled) (requests-read .all);
+          counted = o .within;
+          sized = o .inList .sized;
+        }
+      where
+        b : ℕ
+        b = 1 + spansIn f
+
+        -- the requests, read in the part that follows the spans, for the network that the file has
+        requests-read : OrdersRead (afterSpans f) b (networkIn f) orders
+        requests-read =
+            subst (λ (m : ℕ). OrdersRead (drop (start (1 + m)) f) (1 + m) (networkIn f) orders) n-is
+            (subst (λ (t : Network). OrdersRead (drop (start (1 + n)) f) (1 + n) t orders) is
+            (subst (λ (p : List ℕ). OrdersRead p (1 + n) network orders) (part-is f (16 * (1 + n))) o))
+
+        by :
+            (a : Answer)
+            → InTurn (requestSays f) (records (afterSpans f)) (networkIn f) a
+            → (accepted a ≡ true → Filled (requestSeries (afterSpans f) b (nodesIn f)) (orders .requests) (records (afterSpans f)))
+            → (accepted a ≡ true → orders .count ≡ records (afterSpans f))
+            → outcomeOf a (limits .limits) (orders .count) (orders .requests) ≡ reading f
+        by (Accepted t) w filled all =
+            rw (w .0, all refl)
+            (ap done
+            (book-is f (limits .limits) (orders .requests) (omega (arith, head .most, spans-read .sized)) (spans-read .filled (ap accepted e)) (omega (arith, all refl, o .within, o .inList .sized)) (filled refl))
+            ∙ sym (all-clean f head all-spans (w .1)))
+        by (Refused refusal) stop filled all = sym (requests-refused f head all-spans refusal stop)

@@ -1,0 +1,111 @@
+// Reading any order book (document 01, "Order book records" and "Refusals by number"): every byte list is accepted or refused with a fixed
+// number and place. One pass, no copy of the file, nothing assumed of it.
+ghost use Rattle.reader.specs.Says.{Reads, Unread};
+
+mod bytes;
+mod judge;
+mod records;
+mod requests;
+pub mod shapes;
+mod spans;
+
+// A refusal: its number in the table of document 01, and its place.
+pub struct Refusal {
+    pub number: usize,
+    pub place: usize,
+}
+
+// The fields of the three kinds of record.
+pub struct Network {
+    pub shape: usize,
+    pub nodes: usize,
+    pub channels: usize,
+}
+
+pub struct Span {
+    pub number: usize,
+    pub limit: usize,
+}
+
+pub struct Request {
+    pub number: usize,
+    pub a: usize,
+    pub b: usize,
+    pub profit: usize,
+}
+
+// A record is a network, a span or a request, and nothing else.
+pub enum Record {
+    Network(Network),
+    Span(Span),
+    Request(Request),
+}
+
+// What reading one record comes to.
+pub enum Reading {
+    Got(Record),
+    Refused(Refusal),
+}
+
+// What reading a book comes to.
+pub enum Answer {
+    Accepted(Network),
+    Refused(Refusal),
+}
+
+// The book as it was read: with the answer its limits and its requests, which count where the answer is `Accepted`. (An enum holds no
+// array, so they stand beside it.)
+pub struct Taken {
+    pub answer: Answer,
+    pub limits: [usize; 64],
+    pub count: usize,
+    pub requests: [Request; 256],
+}
+
+// A book that was not read.
+fn nothing(answer: Answer) -> Taken
+    ensures { λ r. ⌜ Unread answer r ⌝ }
+{
+    let none = requests::no_request();
+    Taken {
+        answer,
+        limits: [0usize; 64],
+        count: 0,
+        requests: [none; 256],
+    }
+}
+
+// Reads a book. Where it is refused, the answer says by which number and at which place.
+pub fn read_book(file: &[u8]) -> Taken
+    ensures { λ r. ⌜ Reads (now (file .entry)) r ⌝ }
+{
+    let reading = records::network_at(file);
+    let Reading::Got(got) = reading else {
+        let refusal = records::refusal_of(reading);
+        return nothing(Answer::Refused(refusal));
+    };
+    let Record::Network(network) = got else {
+        return nothing(Answer::Refused(Refusal {
+            number: 2,
+            place: 0,
+        }));
+    };
+    let spans = shapes::spans_of(network.shape, network.nodes);
+    let read = spans::read_spans(file, network, spans);
+    let answer = read.answer;
+    let Answer::Accepted(_) = answer else {
+        return nothing(answer);
+    };
+    let limits = read.limits;
+    let before = 1 + spans;
+    let at = 16 * before;
+    let orders = requests::read_requests(&file[at..], before, network);
+    let answer = orders.answer;
+    let requests = orders.requests;
+    Taken {
+        answer,
+        limits,
+        count: orders.count,
+        requests,
+    }
+}

@@ -1,0 +1,100 @@
+// Reading one record of a slice: its fields are fetched and judged. Every reader names the record by its number in the slice.
+ghost use mathlib.Core.Path.{_≡_};
+ghost use Prim.Native.Nat.{_+_, _*_, _≤_, _<_};
+ghost use lib.ListN.{length};
+ghost use Rattle.reader.specs.Records as R;
+ghost use Rattle.reader.specs.Series.{refusalOf};
+use crate::Network;
+use crate::Reading;
+use crate::Record;
+use crate::Refusal;
+use crate::Request;
+use crate::Span;
+use crate::bytes;
+use crate::judge;
+
+// A record that breaks a row is refused at its place.
+fn answer(row: usize, place: usize, got: Record) -> Reading
+    ensures { λ r. ⌜ r ≡ R.answer row place got ⌝ }
+{
+    if row < 12 {
+        return Reading::Refused(Refusal { number: row, place });
+    }
+    Reading::Got(got)
+}
+
+// The network, record 0, with the byte count, which is tested first.
+pub fn network_at(file: &[u8]) -> Reading
+    ensures { λ r. ⌜ r ≡ R.networkAt (now (file .entry)) ⌝ }
+{
+    if judge::count_wrong(file.len()) {
+        return Reading::Refused(Refusal {
+            number: 1,
+            place: 0,
+        });
+    }
+    let kind = bytes::byte(file, 0);
+    let network = Network {
+        shape: bytes::byte(file, 1),
+        nodes: bytes::two(file, 2),
+        channels: bytes::two(file, 4),
+    };
+    let rest = bytes::blank(file, 6, 10);
+    let row = judge::network(kind, network, rest);
+    answer(row, 0, Record::Network(network))
+}
+
+// The span due at a record index, which may be missing.
+pub fn span_at(file: &[u8], index: usize, channels: usize) -> Reading
+    requires { ⌜ (0 < index) × (index ≤ 64) ⌝ }
+    ensures { λ r. ⌜ r ≡ R.spanAt (now (file .entry)) index channels ⌝ }
+{
+    if file.len() / 16 <= index {
+        return Reading::Refused(Refusal {
+            number: 5,
+            place: index,
+        });
+    }
+    let at = 16 * index;
+    let kind = bytes::byte(file, at);
+    let mark = bytes::byte(file, at + 1);
+    let span = Span {
+        number: bytes::two(file, at + 2),
+        limit: bytes::two(file, at + 4),
+    };
+    let rest = bytes::blank(file, at + 6, 10);
+    let row = judge::span(index - 1, channels, kind, mark, span, rest);
+    answer(row, index, Record::Span(span))
+}
+
+// Request i of the part of the file that follows the spans; `before` records stand before the part.
+pub fn request_at(part: &[u8], i: usize, before: usize, nodes: usize) -> Reading
+    requires { ⌜ (16 * i + 16 ≤ length (now part)) × (before ≤ 65) ⌝ }
+    ensures { λ r. ⌜ r ≡ R.requestAt (now (part .entry)) i before nodes ⌝ }
+{
+    let at = 16 * i;
+    let kind = bytes::byte(part, at);
+    let mark = bytes::byte(part, at + 1);
+    let request = Request {
+        number: bytes::two(part, at + 2),
+        a: bytes::two(part, at + 4),
+        b: bytes::two(part, at + 6),
+        profit: bytes::four(part, at + 8),
+    };
+    let rest = bytes::blank(part, at + 12, 4);
+    let row = judge::request(i, nodes, kind, mark, request, rest);
+    answer(row, before + i, Record::Request(request))
+}
+
+// The refusal that a reading is.
+pub fn refusal_of(reading: Reading) -> Refusal
+    ensures { λ r. ⌜ r ≡ refusalOf reading ⌝ }
+{
+    match reading {
+        Reading::Refused(refusal) => refusal,
+        Reading::Got(_) => Refusal {
+            number: 0,
+            place: 0,
+        },
+    }
+}
