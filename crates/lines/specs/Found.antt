@@ -1,20 +1,17 @@
 -- On a line the channel rule always finds one of 1 to k, if no span is over its limit: so a laid plan within the limits and by the rule
 -- obeys the rules, and no such kept set can meet refusal 15 of 01. And the kept set fixes the entries. Assumes nothing.
-use mathlib.Core.Path.{_≡_, refl, sym, ap, _∙_}
-use mathlib.Core.Bool.{Bool, true, _&&_}
+use mathlib.Core.Path.{_≡_, refl, sym, _∙_}
+use mathlib.Core.Bool.{true}
 use Prim.Native.Nat.{ℕ, _≤_, _<_}
 use borrow.Author.Tests.{eq-eqb}
-use lib.Dec.{eqb}
-use Rattle.sums.specs.Each.{some-ext}
-use Rattle.sums.specs.Lowest.{lowest-ext}
 use Rattle.book.specs.Book.{Book, spans, limit, count}
 use Rattle.rules.specs.Plans.{Plan, kept, way, channel, over, load, obeys}
 use Rattle.rules.specs.Channels.{byRule}
-use Rattle.row.specs.Row.{Row, before, meet, heldBefore}
 use Rattle.row.specs.Channels.{Ruled, from-one, found, told-apart, ruled-once}
+use Rattle.row.specs.Same.{itself, ruled-same}
 use Rattle.lines.specs.RowOf.{rowOf}
 use Rattle.lines.specs.Line.{Line}
-use Rattle.sums.specs.Tests.{all-three, when-so}
+use Rattle.sums.specs.Tests.{all-three}
 use Rattle.lines.specs.Obeys.{share-of, fair-obeys}
 use Rattle.lines.specs.Ways.{line-way, proper}
 use Rattle.lines.specs.Laid.{Laid, within-row, share-meet, rule-ruled}
@@ -53,23 +50,6 @@ module _
 
 -- ---- the kept set fixes the entries
 
--- the rule looks at no more than the kept set and the channels of what is kept
-pub ruled-same :
-    (row : Row) (k : ℕ) (x y : ℕ → Bool) (f g : ℕ → ℕ)
-    → ((i : ℕ) → i < row .count → x i ≡ y i) → ((i : ℕ) → i < row .count → x i ≡ true → f i ≡ g i)
-    → Ruled row k x f → Ruled row k y g
-unfolding heldBefore
-ruled-same row k x y f g sets channels r = record {
-  is = λ i l e. let kept = sets i l ∙ e in sym (channels i l kept) ∙ r .is i l kept ∙ lowest-ext k _ _ (λ c from upto. held i c);
-}
-  where
-    held : (i c : ℕ) → heldBefore row x f i c ≡ heldBefore row y g i c
-    held i c =
-        some-ext (row .count) _ _
-        (λ j l.
-        when-so (x j) (λ e. ap (λ (d : ℕ). before row j i && (meet row j i && eqb d c)) (channels j l e))
-        ∙ ap (λ (t : Bool). t && (before row j i && (meet row j i && eqb (g j) c))) (sets j l))
-
 pub rule-once :
     {book : Book} {plan other : Plan}
     → Line book → Laid book plan → Laid book other → byRule book plan ≡ true → byRule book other ≡ true
@@ -82,4 +62,4 @@ rule-once {book} {plan} {other} on p q rp rq same i l =
   where
     -- the other's channels follow the rule over this plan's kept set
     moved : Ruled (rowOf book) (book .channels) (kept plan) (channel other)
-    moved = ruled-same (rowOf book) (book .channels) (kept other) (kept plan) _ _ (λ j h. sym (same j h)) (λ j h e. refl) (rule-ruled on q rq)
+    moved = ruled-same (itself (rowOf book)) (λ j h. sym (same j h)) (book .channels) (λ j h e. refl) (rule-ruled on q rq)

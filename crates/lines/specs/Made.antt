@@ -9,16 +9,17 @@ use Rattle.sums.specs.Sums.{bit, Σ-ext}
 use Rattle.sums.specs.Lowest.{lowest-upto}
 use Rattle.book.specs.Book.{Book, spans, limit, count, endA, endB}
 use Rattle.rules.specs.Ways.{lineWay, crossed}
-use Rattle.rules.specs.Plans.{Plan, kept, channel, load, obeys}
+use Rattle.rules.specs.Plans.{Plan, kept, load, obeys}
 use Rattle.rules.specs.Channels.{byRule}
 use Rattle.row.specs.Row.{heldBefore}
 use Rattle.row.specs.Channels.{Ruled, ruled-exists}
+use Rattle.row.specs.Same.{itself, ruled-same}
 use Rattle.lines.specs.RowOf.{rowOf}
 use Rattle.lines.specs.Line.{Line}
 use Rattle.lines.specs.Laid.{Laid, load-crossed, ruled-rule}
 use Rattle.lines.specs.Sets.{crossing}
 use Rattle.lines.specs.Entries.{entered, kept-entered, way-entered, channel-entered}
-use Rattle.lines.specs.Found.{rule-obeys, ruled-same}
+use Rattle.lines.specs.Found.{rule-obeys}
 
 -- a plan that keeps x, obeys the rules and has its channels by the rule
 pub record Made (book : Book) (x : ℕ → Bool) (plan : Plan) : Type 0 where
@@ -56,7 +57,7 @@ module _ {book : Book} (on : Line book) (x : ℕ → Bool) (channels : ℕ → �
   unfolding plan rowOf
   plan-rule =
       ruled-rule on plan-laid
-      (ruled-same (rowOf book) (book .channels) x (kept plan) channels (channel plan) (λ i l. sym (plan-keeps i))
+      (ruled-same (itself (rowOf book)) (λ i l. sym (plan-keeps i)) (book .channels)
       (λ i l e. sym (channel-entered x (lineWay book) channels i e (small i l e))) ruled)
 
   plan-made : ((s : ℕ) → s < spans book → crossing book (count book) x s ≤ limit book s) → Made book x plan

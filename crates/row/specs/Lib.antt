@@ -4,3 +4,4 @@ pub mod Clamp
 pub mod Answers
 pub mod Meets
 pub mod Channels
+pub mod Same

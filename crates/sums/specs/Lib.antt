@@ -6,3 +6,4 @@ pub mod Pigeons
 pub mod Tests
 pub mod Greatest
 pub mod Filled
+pub mod Turns

@@ -1,0 +1,173 @@
+-- Each turn lays one request: the smaller end is the lower one, whichever it is, and its cost is minus its profit. Assumes nothing.
+use mathlib.Core.Path.{_≡_, refl}
+use mathlib.Core.Logic.{⊎-elim}
+use Prim.Native.Nat.{ℕ, _-_, _≤_}
+use native.Mathlib.Omega.{arith}
+use lib.IntN.{pos, _-ℤ_}
+use mir.Facts.{toZ-pos}
+use mir.Syntax.{w64}
+use mir.Val.{toZ}
+use Rattle.signed.specs.Parts.{neg}
+use Rattle.signed.specs.Bits.{Reads, minus, within}
+use Rattle.book.specs.Columns.{at}
+use Rattle.line.specs.Laying.{Laying, laying-none, laying-more}
+use Rattle.line.proofs.cells.lay.Statement.{statement}
+use Rattle.line.proofs.cells.lay.Tie as tie
+
+abbrev Inv-loop : tie.InvT-loop
+Inv-loop count a b profit lo₀ hi₀ cost₀ i₀ lo hi cost i = (i ≤ count) × Laying i a b profit lo hi cost
+
+abbrev μ-loop : tie.MeasureT-loop
+μ-loop count a b profit lo₀ hi₀ cost₀ i₀ lo hi cost i = count - i
+
+loop-holds : tie.Need-loop-holds Inv-loop μ-loop
+loop-holds c = (omega arith, laying-none _ _ _ _ _ _ (omega arith) (omega arith) (omega arith))
+
+mul-if1 : tie.Need-mul-if1 Inv-loop μ-loop
+mul-if1 c = omega arith
+
+element-copy-out-if1 : tie.Need-element-copy-out-if1 Inv-loop μ-loop
+element-copy-out-if1 c = omega arith
+
+mul-if1-2 : tie.Need-mul-if1-2 Inv-loop μ-loop
+mul-if1-2 c = omega arith
+
+element-copy-out-if1-2 : tie.Need-element-copy-out-if1-2 Inv-loop μ-loop
+element-copy-out-if1-2 c = omega arith
+
+mul-lo : tie.Need-mul-lo Inv-loop μ-loop
+mul-lo c = omega arith
+
+element-copy-out-lo : tie.Need-element-copy-out-lo Inv-loop μ-loop
+element-copy-out-lo c = omega arith
+
+mul-lo-2 : tie.Need-mul-lo-2 Inv-loop μ-loop
+mul-lo-2 c = omega arith
+
+element-write-lo : tie.Need-element-write-lo Inv-loop μ-loop
+element-write-lo c = omega arith
+
+mul-hi : tie.Need-mul-hi Inv-loop μ-loop
+mul-hi c = omega arith
+
+element-copy-out-hi : tie.Need-element-copy-out-hi Inv-loop μ-loop
+element-copy-out-hi c = omega arith
+
+mul-hi-2 : tie.Need-mul-hi-2 Inv-loop μ-loop
+mul-hi-2 c = omega arith
+
+element-write-hi : tie.Need-element-write-hi Inv-loop μ-loop
+element-write-hi c = omega arith
+
+mul-lo-3 : tie.Need-mul-lo-3 Inv-loop μ-loop
+mul-lo-3 c = omega arith
+
+element-copy-out-lo-2 : tie.Need-element-copy-out-lo-2 Inv-loop μ-loop
+element-copy-out-lo-2 c = omega arith
+
+mul-lo-4 : tie.Need-mul-lo-4 Inv-loop μ-loop
+mul-lo-4 c = omega arith
+
+element-write-lo-2 : tie.Need-element-write-lo-2 Inv-loop μ-loop
+element-write-lo-2 c = omega arith
+
+mul-hi-3 : tie.Need-mul-hi-3 Inv-loop μ-loop
+mul-hi-3 c = omega arith
+
+element-copy-out-hi-2 : tie.Need-element-copy-out-hi-2 Inv-loop μ-loop
+element-copy-out-hi-2 c = omega arith
+
+mul-hi-4 : tie.Need-mul-hi-4 Inv-loop μ-loop
+mul-hi-4 c = omega arith
+
+element-write-hi-2 : tie.Need-element-write-hi-2 Inv-loop μ-loop
+element-write-hi-2 c = omega arith
+
+mul-cost : tie.Need-mul-cost Inv-loop μ-loop
+mul-cost c = omega arith
+
+element-copy-out-cost : tie.Need-element-copy-out-cost Inv-loop μ-loop
+element-copy-out-cost c = omega arith
+
+-- the profit of the request that is laid, and its cost
+abbrev gain : tie.After-cost Inv-loop μ-loop → ℕ
+gain c = let l = c .before .before .before .before .before in at (l .before .before .before .before .before .before .before .args .profit .now) (l .loop .i)
+
+gain-upto : (c : tie.After-cost Inv-loop μ-loop) → gain c ≤ 1000000
+gain-upto c = let l = c .before .before .before .before .before in l .before .before .before .before .before .before .before .pre .upto (l .loop .i) (omega arith)
+
+paid : (c : tie.After-cost Inv-loop μ-loop) → Reads (pos 0 -ℤ toZ w64 (gain c)) (pos 0 -ℤ pos (gain c))
+paid c =
+    let z = pos 0 -ℤ pos (gain c) in
+    minus (pos 0) (pos (gain c)) refl (toZ-pos w64 (omega (arith, gain-upto c))) (within z 1000000 (omega arith) (omega (arith, neg (pos (gain c)), gain-upto c)))
+
+cast-cost : tie.Need-cast-cost Inv-loop μ-loop
+cast-cost c = within (pos (gain c)) 1000000 (omega arith) (omega (arith, gain-upto c))
+
+sub-cost : tie.Need-sub-cost Inv-loop μ-loop
+sub-cost c = paid c .fits
+
+mul-t20 : tie.Need-mul-t20 Inv-loop μ-loop
+mul-t20 c = omega arith
+
+element-set-from-cost : tie.Need-element-set-from-cost Inv-loop μ-loop
+element-set-from-cost c = omega arith
+
+add-i : tie.Need-add-i Inv-loop μ-loop
+add-i c = omega arith
+
+loop-less : tie.Need-loop-less Inv-loop μ-loop
+loop-less c = omega arith
+
+loop-again : tie.Need-loop-again Inv-loop μ-loop
+loop-again c =
+    let l = c .before .before .before .before .before .loop in
+    let z = neg (pos (gain c)) in
+    ⊎-elim
+    (λ w. rw (w .3, w .4, paid c .again) (omega arith, laying-more _ (l .inv .1) (omega arith) (omega (arith, w .0 .taken)) (omega (arith, w .0 .taken)) (z .rise) (z .fall)))
+    (λ w. rw (w .3, w .4, paid c .again) (omega arith, laying-more _ (l .inv .1) (omega arith) (omega (arith, w .0 .left)) (omega (arith, w .0 .left)) (z .rise) (z .fall)))
+    (c .before .if1 .came)
+
+returns : tie.Need-returns Inv-loop μ-loop
+returns c =
+    let l = c .before .loop in
+    let all : l .i ≡ c .before .before .before .before .before .before .before .before .args .count = omega arith in
+    rw all at (l .inv .1 .so-far)
+
+pub lay-spec : {M : Type 1} → statement M
+lay-spec =
+    tie.close
+    (tie.spec
+    Inv-loop
+    μ-loop
+    loop-holds
+    mul-if1
+    element-copy-out-if1
+    mul-if1-2
+    element-copy-out-if1-2
+    mul-lo
+    element-copy-out-lo
+    mul-lo-2
+    element-write-lo
+    mul-hi
+    element-copy-out-hi
+    mul-hi-2
+    element-write-hi
+    mul-lo-3
+    element-copy-out-lo-2
+    mul-lo-4
+    element-write-lo-2
+    mul-hi-3
+    element-copy-out-hi-2
+    mul-hi-4
+    element-write-hi-2
+    mul-cost
+    element-copy-out-cost
+    cast-cost
+    sub-cost
+    mul-t20
+    element-set-from-cost
+    add-i
+    loop-less
+    loop-again
+    returns)

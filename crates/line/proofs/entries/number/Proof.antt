@@ -1,0 +1,61 @@
+-- Each turn counts one more, or none. Assumes nothing.
+use mathlib.Core.Path.{_≡_, refl}
+use mathlib.Core.Logic.{⊎-elim}
+use Prim.Native.Nat.{_-_, _≤_}
+use native.Mathlib.Omega.{arith}
+use Rattle.sums.specs.Sums.{Σ}
+use Rattle.line.specs.Steps.{numberOf}
+use Rattle.line.specs.Totals.{kept-more, left-more}
+use Rattle.line.proofs.entries.number.Statement.{statement}
+use Rattle.line.proofs.entries.number.Tie as tie
+
+abbrev Inv-loop : tie.InvT-loop
+Inv-loop count kept sum₀ i₀ sum i = (i ≤ count) × (sum ≤ i) × (sum ≡ numberOf i kept)
+
+abbrev μ-loop : tie.MeasureT-loop
+μ-loop count kept sum₀ i₀ sum i = count - i
+
+loop-holds : tie.Need-loop-holds Inv-loop μ-loop
+unfolding Σ
+loop-holds c = (omega arith, omega arith, refl)
+
+element-copy-out-if1 : tie.Need-element-copy-out-if1 Inv-loop μ-loop
+element-copy-out-if1 c = omega arith
+
+add-sum : tie.Need-add-sum Inv-loop μ-loop
+add-sum c = omega arith
+
+add-i : tie.Need-add-i Inv-loop μ-loop
+add-i c = omega arith
+
+loop-less : tie.Need-loop-less Inv-loop μ-loop
+loop-less c = omega arith
+
+loop-again : tie.Need-loop-again Inv-loop μ-loop
+loop-again c =
+    let l = c .before .before .before .loop in
+    let kept = c .before .before .before .before .args .kept .now in
+    ⊎-elim
+    (λ w. rw (w .1) (omega arith, omega arith, kept-more kept (λ i. 1) (l .i) (l .inv .2) (w .0 .taken)))
+    (λ w. rw (w .1) (omega arith, omega arith, left-more kept (λ i. 1) (l .i) (l .inv .2) (w .0 .left)))
+    (c .if1 .came)
+
+returns : tie.Need-returns Inv-loop μ-loop
+returns c =
+    let l = c .before .loop in
+    let all : l .i ≡ c .before .before .args .count = omega arith in
+    rw all at (l .inv .2)
+
+pub number-spec : {M : Type 1} → statement M
+number-spec =
+    tie.close
+    (tie.spec
+    Inv-loop
+    μ-loop
+    loop-holds
+    element-copy-out-if1
+    add-sum
+    add-i
+    loop-less
+    loop-again
+    returns)

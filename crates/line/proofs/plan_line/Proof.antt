@@ -1,0 +1,86 @@
+-- Each call is asked for what the calls before it ensure, and in the end the promise is theirs together: `Promised` has every step. The channels
+-- are never used up, by what `hand_out` ensures. Assumes nothing.
+use mathlib.Core.Path.{_≡_}
+use Prim.Native.Nat.{ℕ}
+use native.Mathlib.Omega.{arith}
+use borrow.Author.Needs.{needs}
+use Rattle.channels.specs.declared.Given.the-variants.{All, NoneLeft}
+use Rattle.line.specs.Promised.{can-solve, can-hand-out, channels-small, falling, planned}
+use Rattle.line.proofs.plan_line.Statement.{statement}
+use Rattle.line.proofs.plan_line.Tie as tie
+
+-- from one call back to the one before it, and to the start
+abbrev start : tie.After-solve → tie.Start
+start s = s .before .before .before .before .before .before .before
+
+abbrev solved : tie.After-hand-out → tie.After-solve
+solved h = h .before .before .before .before .before
+
+abbrev handed : tie.After-enter → tie.After-hand-out
+handed e = e .before .before .before .before .before .before
+
+abbrev entered : tie.After-price → tie.After-enter
+entered p = p .before .before .before
+
+sub-cells : tie.Need-sub-cells
+sub-cells c = search needs
+
+solve-requires : tie.Need-solve-requires
+solve-requires c κs = can-solve (c .before .before .before .before .before .before .pre)
+
+hand-out-requires : tie.Need-hand-out-requires
+hand-out-requires c κs = let s = c .before .before .before .before in can-hand-out (start s .pre) (s .solve .ensures)
+
+enum-known-given : tie.Need-enum-known-given
+enum-known-given c = search needs
+
+-- none is left without a channel, so this way is not taken
+returns : tie.Need-returns
+returns c =
+    let h = c .before .before .before .hand-out in
+    let all : h .result ≡ All = h .ensures .all in
+    let none : h .result ≡ NoneLeft (c .before .given .given .0 .0) = c .before .given .given .1 in
+    let z : _≡_ {A = ℕ} 0 1 = cc in
+    λ w. absurd (omega arith)
+
+enum-told : tie.Need-enum-told
+enum-told c = search needs
+
+enter-requires : tie.Need-enter-requires
+enter-requires c κs =
+    let h = c .before .before .before .before .before in
+    let s = solved h in
+    channels-small (start s .pre) (s .solve .ensures) (h .hand-out .ensures)
+
+price-requires : tie.Need-price-requires
+price-requires c κs = let s = solved (handed (c .before .before)) in falling (start s .pre) (s .solve .ensures)
+
+earned-requires : tie.Need-earned-requires
+earned-requires c κs = let s = solved (handed (entered (c .before))) in can-solve (start s .pre) .profits-are
+
+number-requires : tie.Need-number-requires
+number-requires c κs = let s = solved (handed (entered (c .before .before .before))) in can-solve (start s .pre) .profits-are .few
+
+returns-2 : tie.Need-returns-2
+returns-2 c =
+    let p = c .before .before .before .before in
+    let e = entered p in
+    let h = handed e in
+    let s = solved h in
+    λ w. planned w (s .solve .ensures) (h .hand-out .ensures) (e .enter .ensures) (p .price .ensures) (c .before .before .earned .ensures) (c .number .ensures)
+
+pub plan-line-spec : {M : Type 1} → statement M
+plan-line-spec =
+    tie.close
+    (tie.spec
+    sub-cells
+    solve-requires
+    hand-out-requires
+    enum-known-given
+    returns
+    enum-told
+    enter-requires
+    price-requires
+    earned-requires
+    number-requires
+    returns-2)

@@ -1,0 +1,80 @@
+-- What the row planner leaves is, on a line, a kept set within the limits that earns the ceiling of its prices: the state of the flow is the
+-- certificate of the row, and prices cut down to 1,000,000, which no profit exceeds, still certify. So the set earns the best. Assumes nothing.
+use mathlib.Core.Path.{_≡_, refl, sym, ap, _∙_}
+use mathlib.Core.Bool.{Bool, true, _&&_}
+use Prim.Native.Nat.{ℕ, _≤_, _<_}
+use native.Mathlib.Omega.{arith}
+use borrow.Author.Tests.{eq-eqb}
+use Rattle.sums.specs.Each.{both}
+use Rattle.sums.specs.Sums.{bit, Σ-ext}
+use Rattle.book.specs.Book.{Book, limit, count}
+use Rattle.rules.specs.Plans.{Plan, kept, obeys}
+use Rattle.rules.specs.Prices.{Prices, verdict}
+use Rattle.rules.specs.Best.{best}
+use Rattle.row.specs.Row.{Row, load, worth, Within, Tight}
+use Rattle.row.specs.Duality.{tight}
+use Rattle.row.specs.Answers.{same-worth}
+use Rattle.row.specs.Clamp.{clamp, clamped}
+use Rattle.row.specs.Same.{SameKept, Same, within-same, tight-same}
+use Rattle.flow.specs.Balanced.{Proper, Balanced, priceAt}
+use Rattle.flow.specs.Certificate.{balanced-within, balanced-tight}
+use Rattle.lines.specs.RowOf.{rowOf}
+use Rattle.lines.specs.Line.{Line}
+use Rattle.lines.specs.Ways.{proper, crossed-covers}
+use Rattle.lines.specs.Obeys.{obeys-fair}
+use Rattle.lines.specs.Laid.{obeys-laid, earnings-worth, within-row}
+use Rattle.lines.specs.Sets.{crossing, set-bounded}
+use Rattle.lines.specs.Ceiling.{ceiling-row}
+use Rattle.lines.specs.Best.{attained}
+
+-- x is within the limits of the line, and certified by the prices y
+pub record Certified (book : Book) (x : ℕ → Bool) (y : Prices) : Type 0 where
+  pub within : Within (rowOf book) x
+  pub certificate : Tight (rowOf book) x y
+
+-- ---- the state of the flow is a certificate
+
+module _ {book : Book} (on : Line book) {row : Row} (same : Same row (rowOf book)) where
+  real : Proper row (row .count)
+  unfolding rowOf
+  real = record {
+    some-cell = λ i l. omega (arith, same .intervals .lo i l, same .intervals .hi i l, proper on (λ j. true) .some-cell i (omega (arith, same .intervals .count)) refl);
+    in-row = λ i l. omega (arith, same .intervals .hi i l, same .intervals .cells, proper on (λ j. true) .in-row i (omega (arith, same .intervals .count)) refl);
+  }
+
+  small : (i : ℕ) → i < row .count → row .profit i ≤ 1000000
+  unfolding rowOf
+  small i l = omega (arith, same .profit i l, on .sound .profit-upto i (omega (arith, same .intervals .count)))
+
+  -- for any set that keeps the same requests, and any prices that are the same on the line's spans
+  pub certified :
+      {x x′ : ℕ → Bool} {s N : ℕ → ℕ} {y : Prices}
+      → Balanced row (row .count) x s N → SameKept (row .count) x x′ → ((j : ℕ) → j < row .cells → clamp 1000000 (priceAt N) j ≡ y j) → Certified book x′ y
+  certified {x} {x′} {s} {N} b sets prices = record {
+    within = within-same same sets (balanced-within b);
+    certificate = tight-same same sets prices (clamped row x (priceAt N) 1000000 small (balanced-tight real b));
+  }
+
+-- ---- a plan with such a set gets a yes, and no set earns more
+
+module _ {book : Book} (on : Line book) where
+  pub certified-yes : (plan : Plan) {y : Prices} → obeys book plan ≡ true → Certified book (kept plan) y → verdict book plan y ≡ true
+  unfolding verdict
+  certified-yes plan {y} fair c = both _ _ fair (eq-eqb _ _ (earnings-worth book plan ∙ tight (rowOf book) (kept plan) y (c .certificate) ∙ sym (ceiling-row on y)))
+
+  -- a best plan's set is within the limits, and this one is among those that `best` tries
+  pub earns-best : {x : ℕ → Bool} {y : Prices} → Certified book x y → worth (rowOf book) x ≡ best book
+  unfolding rowOf load worth best
+  earns-best {x} {y} c =
+      let (plan, fair, rule, earns) = attained on in
+      let within = within-row on (obeys-laid on fair) (obeys-fair book plan fair .within-limits) in
+      omega (
+        arith,
+        earns,
+        earnings-worth book plan,
+        same-worth (rowOf book) x (kept plan) y (c .certificate) within,
+        set-bounded book (count book) (limit book) x (λ s l. omega (arith, crossed-load s, c .within .holds s l)),
+      )
+    where
+      crossed-load : (s : ℕ) → crossing book (count book) x s ≡ load (rowOf book) x s
+      crossed-load s = Σ-ext (count book) _ _ (λ i l. ap (λ (t : Bool). bit (x i && t)) (crossed-covers on i s l))

@@ -1,0 +1,10 @@
+pub mod Promise
+pub mod Steps
+pub mod Laying
+pub mod Entering
+pub mod Totals
+pub mod Solving
+pub mod AsRow
+pub mod Certified
+pub mod Written
+pub mod Promised

@@ -1,0 +1,98 @@
+// A line's columns as a row, and the prices of its cells.
+ghost use mathlib.Core.Path.{_≡_};
+ghost use Prim.Native.Nat.{_-_, _≤_, min};
+ghost use Rattle.signed.specs.Parts.{dn};
+ghost use Rattle.sums.specs.Filled.{Filled};
+ghost use Rattle.book.specs.Columns.{at};
+ghost use Rattle.line.specs.Steps.{Profits, Candidates, CanSolve, Solves, Falls, Falling, prices-of};
+
+// The lower and the upper end of each request, and its cost: minus its profit.
+fn lay(
+    count: usize,
+    a: &[usize; 256],
+    b: &[usize; 256],
+    profit: &[usize; 256],
+    lo: &mut [usize; 256],
+    hi: &mut [usize; 256],
+    cost: &mut [i64; 256],
+)
+    requires { ⌜ Profits count (now profit) ⌝ }
+    ensures { λ r. ⌜ Candidates count (now (a .entry)) (now (b .entry)) (now (profit .entry)) (now (lo .exit)) (now (hi .exit)) (now (cost .exit)) ⌝ }
+{
+    let los = &lo[..];
+    let his = &hi[..];
+    let costs = &cost[..];
+    let mut i = 0;
+    while i < count {
+        if a[i] < b[i] {
+            lo[i] = a[i];
+            hi[i] = b[i];
+        } else {
+            lo[i] = b[i];
+            hi[i] = a[i];
+        }
+        cost[i] = -(profit[i] as i64);
+        i += 1;
+    }
+}
+
+// The limits as the room that there is.
+fn make_room(cells: usize, limits: &[usize; 64], room: &mut [usize; 128])
+    requires { ⌜ cells ≤ 63 ⌝ }
+    ensures { λ r. ⌜ Filled (at (now (limits .entry))) cells (now (room .exit)) ⌝ }
+{
+    let all = &room[..];
+    let mut j = 0;
+    while j < cells {
+        room[j] = limits[j];
+        j += 1;
+    }
+}
+
+// Lays the requests on the row and finds its best set.
+pub fn solve(
+    cells: usize,
+    count: usize,
+    limits: &[usize; 64],
+    a: &[usize; 256],
+    b: &[usize; 256],
+    profit: &[usize; 256],
+    lo: &mut [usize; 256],
+    hi: &mut [usize; 256],
+    cost: &mut [i64; 256],
+    room: &mut [usize; 128],
+    kept: &mut [bool; 256],
+    dist: &mut [i64; 128],
+)
+    requires { ⌜ CanSolve cells count (now limits) (now a) (now b) (now profit) ⌝ }
+    ensures { λ r. ⌜ Solves cells count (now (limits .entry)) (now (a .entry)) (now (b .entry)) (now (profit .entry)) (now (lo .exit)) (now (hi .exit)) (now (cost .exit)) (now (kept .exit)) (now (room .exit)) (now (dist .exit)) ⌝ }
+{
+    lay(count, a, b, profit, lo, hi, cost);
+    make_room(cells, limits, room);
+    planrow::plan_row(cells, count, lo, hi, cost, kept, room, dist);
+}
+
+// The price of each cell: what the distance falls by along it, and no more than 1,000,000.
+pub fn price(cells: usize, dist: &[i64; 128], prices: &mut [usize; 64])
+    requires { ⌜ Falling cells (now dist) ⌝ }
+    ensures { λ r. ⌜ Filled (prices-of (now (dist .entry))) cells (now (prices .exit)) ⌝ }
+{
+    let all = &prices[..];
+    let mut j = 0;
+    while j < cells {
+        prices[j] = capped(dist[j], dist[j + 1]);
+        j += 1;
+    }
+}
+
+// What the distance falls by, and no more than 1,000,000.
+fn capped(near: i64, far: i64) -> usize
+    requires { ⌜ Falls near far ⌝ }
+    ensures { λ r. ⌜ r ≡ min 1000000 (dn far - dn near) ⌝ }
+{
+    let fall = near - far;
+    if 1000000 <= fall {
+        return 1000000;
+    }
+    fall as usize
+}

@@ -1,0 +1,64 @@
+// The entries of a plan, and the sums over what is kept.
+ghost use mathlib.Core.Path.{_≡_};
+ghost use Prim.Native.Nat.{_≤_};
+ghost use Rattle.line.specs.Steps.{Profits, Channels, Entered, sumOf, numberOf};
+
+// The profits of the kept ones.
+pub fn earned(count: usize, kept: &[bool; 256], profit: &[usize; 256]) -> usize
+    requires { ⌜ Profits count (now profit) ⌝ }
+    ensures { λ r. ⌜ r ≡ sumOf count (now (kept .entry)) (now (profit .entry)) ⌝ }
+{
+    let mut sum = 0;
+    let mut i = 0;
+    while i < count {
+        if kept[i] {
+            sum += profit[i];
+        }
+        i += 1;
+    }
+    sum
+}
+
+// How many are kept.
+pub fn number(count: usize, kept: &[bool; 256]) -> usize
+    requires { ⌜ count ≤ 256 ⌝ }
+    ensures { λ r. ⌜ r ≡ numberOf count (now (kept .entry)) ⌝ }
+{
+    let mut sum = 0;
+    let mut i = 0;
+    while i < count {
+        if kept[i] {
+            sum += 1;
+        }
+        i += 1;
+    }
+    sum
+}
+
+// The entry of each request: 0 where it is not kept, else way times 256 plus channel.
+pub fn enter(
+    count: usize,
+    a: &[usize; 256],
+    b: &[usize; 256],
+    kept: &[bool; 256],
+    channel: &[usize; 256],
+    entries: &mut [usize; 256],
+)
+    requires { ⌜ Channels count (now channel) ⌝ }
+    ensures { λ r. ⌜ Entered count (now (a .entry)) (now (b .entry)) (now (kept .entry)) (now (channel .entry)) (now (entries .exit)) ⌝ }
+{
+    let all = &entries[..];
+    let mut i = 0;
+    while i < count {
+        if kept[i] {
+            if a[i] < b[i] {
+                entries[i] = 256 + channel[i];
+            } else {
+                entries[i] = 512 + channel[i];
+            }
+        } else {
+            entries[i] = 0;
+        }
+        i += 1;
+    }
+}

@@ -1,0 +1,116 @@
+// The best plan on a line, with its channels and its prices (document 01, "What the planner hands back"). The line is a row: its spans are the cells, and a
+// request lies over the cells between its ends.
+mod cells;
+mod entries;
+
+ghost use mathlib.Core.Path.{_≡_};
+ghost use Rattle.rules.specs.Best.{best};
+ghost use Rattle.line.specs.Promise.{CanPlanLine, LinePlanned};
+use channels::Given;
+
+// What planning a line comes to: what it earns and how many are kept, or the request for which no channel was left (refusal 15).
+pub enum Solved {
+    Planned { earned: usize, number: usize },
+    NoneLeft(usize),
+}
+
+// The answer, with an entry for each request and a price for each span. (An enum holds no array.)
+pub struct LinePlan {
+    pub answer: Solved,
+    pub entries: [usize; 256],
+    pub prices: [usize; 64],
+}
+
+// The most that any plan on this line earns.
+pub fn best_earnings(
+    nodes: usize,
+    channels: usize,
+    count: usize,
+    limits: &[usize; 64],
+    a: &[usize; 256],
+    b: &[usize; 256],
+    profit: &[usize; 256],
+) -> usize
+    requires { ⌜ CanPlanLine nodes channels count (now limits) (now a) (now b) (now profit) ⌝ }
+    ensures { λ r. ⌜ ((w : CanPlanLine nodes channels count (now (limits .entry)) (now (a .entry)) (now (b .entry)) (now (profit .entry))) → r ≡ best (w .book)) ⌝ }
+{
+    let mut lo = [0usize; 256];
+    let mut hi = [0usize; 256];
+    let mut cost = [0i64; 256];
+    let mut room = [0usize; 128];
+    let mut kept = [false; 256];
+    let mut dist = [0i64; 128];
+    cells::solve(
+        nodes - 1,
+        count,
+        limits,
+        a,
+        b,
+        profit,
+        &mut lo,
+        &mut hi,
+        &mut cost,
+        &mut room,
+        &mut kept,
+        &mut dist,
+    );
+    entries::earned(count, &kept, profit)
+}
+
+// A best plan on this line.
+pub fn plan_line(
+    nodes: usize,
+    channels: usize,
+    count: usize,
+    limits: &[usize; 64],
+    a: &[usize; 256],
+    b: &[usize; 256],
+    profit: &[usize; 256],
+) -> LinePlan
+    requires { ⌜ CanPlanLine nodes channels count (now limits) (now a) (now b) (now profit) ⌝ }
+    ensures { λ r. ⌜ ((w : CanPlanLine nodes channels count (now (limits .entry)) (now (a .entry)) (now (b .entry)) (now (profit .entry))) → LinePlanned (w .book) (r .answer) (r .entries) (r .prices)) ⌝ }
+{
+    let mut lo = [0usize; 256];
+    let mut hi = [0usize; 256];
+    let mut cost = [0i64; 256];
+    let mut room = [0usize; 128];
+    let mut kept = [false; 256];
+    let mut dist = [0i64; 128];
+    let mut channel = [0usize; 256];
+    let mut entries = [0usize; 256];
+    let mut prices = [0usize; 64];
+    let cells = nodes - 1;
+    cells::solve(
+        cells,
+        count,
+        limits,
+        a,
+        b,
+        profit,
+        &mut lo,
+        &mut hi,
+        &mut cost,
+        &mut room,
+        &mut kept,
+        &mut dist,
+    );
+    let given = channels::hand_out(cells, count, channels, &lo, &hi, &kept, &mut channel);
+    if let Given::NoneLeft(r) = given {
+        return LinePlan {
+            answer: Solved::NoneLeft(r),
+            entries: entries,
+            prices: prices,
+        };
+    }
+    entries::enter(count, a, b, &kept, &channel, &mut entries);
+    cells::price(cells, &dist, &mut prices);
+    let answer = Solved::Planned {
+        earned: entries::earned(count, &kept, profit),
+        number: entries::number(count, &kept),
+    };
+    LinePlan {
+        answer: answer,
+        entries: entries,
+        prices: prices,
+    }
+}
