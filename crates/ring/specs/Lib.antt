@@ -1,0 +1,3 @@
+pub mod Promise
+pub mod Turned
+pub mod Choosing

@@ -1,0 +1,31 @@
+-- What planning a ring promises, in the words of 01. Assumes nothing.
+use mathlib.Core.Bool.{Bool, true}
+use mathlib.Core.List.{List}
+use mathlib.Core.Path.{_≡_}
+use Prim.Native.Nat.{ℕ, _≤_, _<_}
+use Rattle.book.specs.Book.{Book}
+use Rattle.book.specs.Columns.{at, Holds}
+use Rattle.rules.specs.Plans.{obeys, numberKept, earnings, Best}
+use Rattle.rules.specs.Channels.{byRule}
+use Rattle.rules.specs.Cuts as Cuts
+use Rattle.rules.specs.Cuts.{cutLine}
+use Rattle.rings.specs.Ring.{Ring}
+use Rattle.line.specs.declared.Solved.{Solved}
+use Rattle.line.specs.declared.Solved.the-variants.{Planned}
+
+-- the columns hold a ring's accepted book
+pub record CanPlanRing (nodes channels count : ℕ) (limits a b profits : List ℕ) : Type 0 where
+  pub book : Book
+  pub ring : Ring book
+  pub nodes-is : nodes ≡ book .nodes
+  pub channels-is : channels ≡ book .channels
+  pub holds : Holds book count limits a b profits
+
+-- The cut is the lowest-numbered span whose line has the greatest best earnings; the plan is best on that line, with its channels, and obeys the ring's own
+-- rules; earnings and number kept are sums over its entries. Refusal 15 is never the answer.
+pub record RingPlanned (book : Book) (answer : Solved) (cut : ℕ) (entries : List ℕ) : Type 0 where
+  pub says : answer ≡ Planned (earnings book (at entries)) (numberKept book (at entries))
+  pub cut-is : cut ≡ Cuts.cut book
+  pub best-plan : Best (cutLine book (Cuts.cut book)) (at entries)
+  pub by-rule : byRule (cutLine book (Cuts.cut book)) (at entries) ≡ true
+  pub fair : obeys book (at entries) ≡ true

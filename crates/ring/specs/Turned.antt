@@ -1,0 +1,86 @@
+-- A ring's columns, turned from the node after cut j, are those of the line which the cut leaves, so the line planner's promise speaks of that line.
+-- Assumes nothing.
+use mathlib.Core.List.{List}
+use mathlib.Core.Bool.{true}
+use mathlib.Core.Path.{_≡_, ap₂, subst, _∙_}
+use Prim.Native.Nat.{ℕ, _+_, _-_, _≤_, _<_}
+use native.Mathlib.Omega.{arith}
+use Rattle.sums.specs.Filled.{Filled}
+use Rattle.book.specs.Book as Books
+use Rattle.book.specs.Columns.{at, Holds}
+use Rattle.rules.specs.Plans.{Best}
+use Rattle.rules.specs.Channels.{byRule}
+use Rattle.rules.specs.Best.{best}
+use Rattle.rules.specs.Cuts as Cuts
+use Rattle.rules.specs.Cuts.{steps, spanAt, cutLine, cutBest}
+use Rattle.rings.specs.CutLine.{ring-spans, cut-line}
+use Rattle.rings.specs.Choice.{cut-in}
+use Rattle.rings.specs.Fair as F
+use Rattle.rings.specs.TurnedColumns.{turned-holds}
+use Rattle.turn.specs.Nodes.{Nodes}
+use Rattle.line.specs.declared.Solved.{Solved}
+use Rattle.line.specs.declared.Solved.the-variants.{Planned}
+use Rattle.line.specs.Promise.{CanPlanLine, LinePlanned}
+use Rattle.ring.specs.Promise.{CanPlanRing, RingPlanned}
+
+module _ {nodes channels count : ℕ} {limits a b profits : List ℕ} (w : CanPlanRing nodes channels count limits a b profits) where
+  pub few-nodes : nodes ≤ 64
+  few-nodes = omega (arith, w .nodes-is, w .ring .sound .nodes-upto)
+
+  pub some-nodes : 3 ≤ nodes
+  some-nodes = omega (arith, w .nodes-is, w .ring .sound .ring-from (w .ring .ring))
+
+  -- the cut that is chosen is a span of the ring
+  pub chosen-in : {j : ℕ} → j ≡ Cuts.cut (w .book) → j < nodes
+  chosen-in e = omega (arith, e, cut-in (w .ring), ring-spans (w .ring), w .nodes-is)
+
+  known : (i : ℕ) → i < count → i < Books.count (w .book)
+  known i l = omega (arith, w .holds .counted)
+
+  few : count ≤ 256
+  few = omega (arith, w .holds .counted, w .ring .sound .count-upto)
+
+  -- both columns of ends can be turned
+  pub a-nodes : (j : ℕ) → j < nodes → Nodes nodes j count a
+  a-nodes j l = record { cut-in = l; n-upto = few-nodes; count-upto = few; are-nodes = λ i h. omega (arith, w .holds .a-is i h, w .ring .sound .a-node i (known i h), w .nodes-is) }
+
+  pub b-nodes : (j : ℕ) → j < nodes → Nodes nodes j count b
+  b-nodes j l = record { cut-in = l; n-upto = few-nodes; count-upto = few; are-nodes = λ i h. omega (arith, w .holds .b-is i h, w .ring .sound .b-node i (known i h), w .nodes-is) }
+
+  module _ (j : ℕ) (cut : j < nodes) {limits′ a′ b′ : List ℕ}
+      (turned : Filled (λ t. at limits (spanAt nodes j t)) (nodes - 1) limits′) (from : Filled (λ i. steps nodes (j + 1) (at a i)) count a′) (to : Filled (λ i. steps nodes (j + 1) (at b i)) count b′)
+    where
+      turned-line : Holds (cutLine (w .book) j) count limits′ a′ b′ profits
+      turned-line =
+          turned-holds (w .ring) j (omega (arith, w .nodes-is)) (w .holds)
+          (λ t l. subst (λ (n : ℕ). at limits′ t ≡ at limits (spanAt n j t)) (w .nodes-is) (turned .is t (omega (arith, w .nodes-is))))
+          (λ i l. subst (λ (n : ℕ). at a′ i ≡ steps n (j + 1) (at a i)) (w .nodes-is) (from .is i l))
+          (λ i l. subst (λ (n : ℕ). at b′ i ≡ steps n (j + 1) (at b i)) (w .nodes-is) (to .is i l))
+
+      pub cut-plannable : CanPlanLine nodes channels count limits′ a′ b′ profits
+      unfolding cutLine
+      cut-plannable =
+          record {
+            book = cutLine (w .book) j;
+            line = cut-line (w .ring) j (omega (arith, w .nodes-is, ring-spans (w .ring)));
+            nodes-is = w .nodes-is;
+            channels-is = w .channels-is;
+            holds = turned-line;
+          }
+
+      -- what the line planner says of the turned columns, it says of the cut's line
+      pub cut-earned : {r : ℕ} → ((v : CanPlanLine nodes channels count limits′ a′ b′ profits) → r ≡ best (v .book)) → r ≡ cutBest (w .book) j
+      unfolding cut-plannable cutBest
+      cut-earned says = says cut-plannable
+
+      pub cut-planned : {answer : Solved} {entries prices : List ℕ} → ((v : CanPlanLine nodes channels count limits′ a′ b′ profits) → LinePlanned (v .book) answer entries prices) → j ≡ Cuts.cut (w .book) → RingPlanned (w .book) answer j entries
+      unfolding cut-plannable
+      cut-planned {answer} {entries} says chosen =
+          let p : LinePlanned (cutLine (w .book) j) answer entries _ = says cut-plannable in
+          record {
+            says = p .says ∙ ap₂ Planned (F.cut-earnings (w .ring) j (at entries)) (F.cut-number (w .ring) j (at entries));
+            cut-is = chosen;
+            best-plan = subst (λ (k : ℕ). Best (cutLine (w .book) k) (at entries)) chosen (p .best-plan);
+            by-rule = subst (λ (k : ℕ). byRule (cutLine (w .book) k) (at entries) ≡ true) chosen (p .by-rule);
+            fair = F.cut-plan-obeys (w .ring) j (omega (arith, w .nodes-is, ring-spans (w .ring))) (at entries) (p .best-plan .fair);
+          }
