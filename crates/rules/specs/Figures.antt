@@ -20,7 +20,7 @@ use Rattle.rules.specs.Channels.{lowerEnd, earlier, heldBefore, byRule}
 use Rattle.rules.specs.Best.{fits, lowered, bestWithin, best}
 use Rattle.rules.specs.Cuts.{steps, spanAt, moved, cutLine, cutBest, cut, planLine, cutShown}
 use Rattle.rules.specs.Prices.{Prices, priceOf, ceiling, verdict}
-use Rattle.rules.specs.Operations.{tooShort, tooDear, checking, checker}
+use Rattle.rules.specs.Operations.{placesShort, tooShort, tooDear, checking, checker}
 
 -- ---- questions and answers
 
@@ -227,5 +227,5 @@ figures =
     ∷ []
 
 pub figures-right : Right figures
-unfolding each some seek Σ table two four blank entryPlaces pricePlaces entryIn priceIn spansOf spans limit count endA endB profit start records present kindIn markIn numberIn shapeIn nodesIn channelsIn spansIn limitIn aIn bIn profitIn countWrong networkWrong nodesWrong channelsWrong spanWrong markWrong limitWrong tooMany requestWrong endsWrong profitWrong rows fault andThen due requestOf bookOf faultyRecord reading upward crosses wayExists lineWay crossed kept way channel earnings over load share formed apart obeys lowerEnd earlier lowestFree heldBefore byRule fits lowered bestWithin best steps spanAt moved cutLine cutBest cut planLine cutShown priceOf ceiling verdict tooShort tooDear checking checker asked Right
+unfolding each some seek Σ table two four blank entryPlaces pricePlaces entryIn priceIn spansOf spans limit count endA endB profit start records present kindIn markIn numberIn shapeIn nodesIn channelsIn spansIn limitIn aIn bIn profitIn countWrong networkWrong nodesWrong channelsWrong spanWrong markWrong limitWrong tooMany requestWrong endsWrong profitWrong rows fault andThen due requestOf bookOf faultyRecord reading upward crosses wayExists lineWay crossed kept way channel earnings over load share formed apart obeys lowerEnd earlier lowestFree heldBefore byRule fits lowered bestWithin best steps spanAt moved cutLine cutBest cut planLine cutShown priceOf ceiling verdict placesShort tooShort tooDear checking checker asked Right
 figures-right = (refl, (refl, (refl, (refl, (refl, (refl, (refl, (refl, (refl, (refl, (refl, (refl, (refl, (refl, (refl, (refl, (refl, (refl, (refl, (refl, (refl, (refl, (refl, (refl, (refl, (refl, (refl, (refl, (refl, (refl, (refl, tt)))))))))))))))))))))))))))))))

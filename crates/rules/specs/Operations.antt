@@ -14,9 +14,12 @@ use Rattle.rules.specs.Channels.{earlier, byRule}
 use Rattle.rules.specs.Cuts.{planLine, cutShown}
 use Rattle.rules.specs.Prices.{Prices, verdict}
 
--- 12: the entry list is shorter than m, or on a line the price list shorter than n − 1
+-- 12: the entry list is shorter than m, or on a line the price list shorter than n − 1; lists are measured in whole places
+unfoldable pub placesShort : Book → ℕ → ℕ → Bool
+placesShort book entryPlaces pricePlaces = ltb entryPlaces (count book) || (isLine book && ltb pricePlaces (spans book))
+
 unfoldable pub tooShort : Book → List ℕ → List ℕ → Bool
-tooShort book entries prices = ltb (entryPlaces entries) (count book) || (isLine book && ltb (pricePlaces prices) (spans book))
+tooShort book entries prices = placesShort book (entryPlaces entries) (pricePlaces prices)
 
 -- 13: the lowest span whose price is above 1,000,000, or the number of spans where there is none
 unfoldable pub tooDear : Book → Prices → ℕ
@@ -34,8 +37,11 @@ unfoldable pub checker : List ℕ → List ℕ → List ℕ → Outcome Bool
 checker file entries prices = andThen (reading file) (λ book. checking book entries prices)
 
 -- the planner as far as no plan is needed: the book's refusals, then 12
+unfoldable pub plannableIn : List ℕ → ℕ → ℕ → Outcome Book
+plannableIn file entryPlaces pricePlaces = andThen (reading file) (λ book. cond (placesShort book entryPlaces pricePlaces) (refused 12 0) (done book))
+
 unfoldable pub plannable : List ℕ → List ℕ → List ℕ → Outcome Book
-plannable file entries prices = andThen (reading file) (λ book. cond (tooShort book entries prices) (refused 12 0) (done book))
+plannable file entries prices = plannableIn file (entryPlaces entries) (pricePlaces prices)
 
 -- what the planner hands back of an accepted book: which of several best sets is kept is left open, and nothing else
 pub record Planned (book : Book) (plan : Plan) (earned number cut : ℕ) : Type 0 where

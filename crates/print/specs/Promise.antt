@@ -1,0 +1,27 @@
+-- What the two printing functions promise, and what the second asks. Assumes nothing.
+use mathlib.Core.List.{List}
+use mathlib.Core.Path.{_≡_}
+use Prim.Native.Nat.{ℕ, _+_, _*_, _≤_, _<_}
+use Rattle.text.specs.Put.{Put}
+use Rattle.book.specs.Book.{Book}
+use Rattle.book.specs.Columns.{at, Holds}
+use Rattle.print.specs.Printed.{printedRefusal, printedPlan}
+
+-- a refusal's line: r bytes at the front of the buffer, which is left as it was past them
+pub record PrintsRefusal (number place : ℕ) (before after : List ℕ) (r : ℕ) : Type 0 where
+  pub fits : r ≤ 4096
+  pub text : Put before after 0 (printedRefusal number place) r
+
+-- what the caller sees to: 256 requests at most, whose ends are nodes and whose entries are 0 or of way 1 or 2 and a channel up to 96
+pub record Printable (count : ℕ) (a b entries : List ℕ) : Type 0 where
+  pub many : count ≤ 256
+  pub a-node : (i : ℕ) → i < count → at a i < 64
+  pub b-node : (i : ℕ) → i < count → at b i < 64
+  pub entry : (i : ℕ) → i < count → at entries i ≤ 2 * 256 + 96
+
+-- a plan's text, whatever book of that shape the columns hold
+pub record PrintsPlan (shape count earned number cut : ℕ) (a b entries before after : List ℕ) (r : ℕ) : Type 0 where
+  pub fits : r ≤ 4096
+  pub text :
+      (book : Book) (limits profits : List ℕ) → book .shape ≡ shape → Holds book count limits a b profits
+      → Put before after 0 (printedPlan book (at entries) earned number cut) r

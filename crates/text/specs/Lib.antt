@@ -1,0 +1,5 @@
+pub mod Words
+pub mod Decimal
+pub mod ReadBack
+pub mod Put
+pub mod PutDecimal
