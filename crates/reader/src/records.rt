@@ -28,10 +28,11 @@ pub fn network_at(file: &[u8]) -> Reading
     ensures { λ r. ⌜ r ≡ R.networkAt (now (file .entry)) ⌝ }
 {
     if judge::count_wrong(file.len()) {
-        return Reading::Refused(Refusal {
+        let wrong = Refusal {
             number: 1,
             place: 0,
-        });
+        };
+        return Reading::Refused(wrong);
     }
     let kind = bytes::byte(file, 0);
     let network = Network {
@@ -50,10 +51,11 @@ pub fn span_at(file: &[u8], index: usize, channels: usize) -> Reading
     ensures { λ r. ⌜ r ≡ R.spanAt (now (file .entry)) index channels ⌝ }
 {
     if file.len() / 16 <= index {
-        return Reading::Refused(Refusal {
+        let missing = Refusal {
             number: 5,
             place: index,
-        });
+        };
+        return Reading::Refused(missing);
     }
     let at = 16 * index;
     let kind = bytes::byte(file, at);
