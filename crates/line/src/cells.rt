@@ -19,6 +19,7 @@ fn lay(
     requires { ⌜ Profits count (now profit) ⌝ }
     ensures { λ r. ⌜ Candidates count (now (a .entry)) (now (b .entry)) (now (profit .entry)) (now (lo .exit)) (now (hi .exit)) (now (cost .exit)) ⌝ }
 {
+    // a slice of an array behind a reference tells how many places it has
     let los = &lo[..];
     let his = &hi[..];
     let costs = &cost[..];
@@ -41,6 +42,7 @@ fn make_room(cells: usize, limits: &[usize; 64], room: &mut [usize; 128])
     requires { ⌜ cells ≤ 63 ⌝ }
     ensures { λ r. ⌜ Filled (at (now (limits .entry))) cells (now (room .exit)) ⌝ }
 {
+    // tells how many places there are
     let all = &room[..];
     let mut j = 0;
     while j < cells {
@@ -77,6 +79,7 @@ pub fn price(cells: usize, dist: &[i64; 128], prices: &mut [usize; 64])
     requires { ⌜ Falling cells (now dist) ⌝ }
     ensures { λ r. ⌜ Filled (prices-of (now (dist .entry))) cells (now (prices .exit)) ⌝ }
 {
+    // tells how many places there are
     let all = &prices[..];
     let mut j = 0;
     while j < cells {
