@@ -5,13 +5,12 @@ use mathlib.Core.Path.{_≡_, sym, _∙_}
 use mathlib.Core.Bool.{Bool, true, false, _&&_}
 use mathlib.Core.Logic.{⊎-elim}
 use Prim.Native.Nat.{ℕ, zero, suc, _+_, _-_, _≤_, _<_}
-use native.Mathlib.Nat.{eq-or-lt-of-le, le-of-suc-le-suc, eq-zero-or-pos, le-trans}
+use native.Mathlib.Nat.{eq-or-lt-of-le, le-of-suc-le-suc, eq-zero-or-pos}
 use native.Mathlib.Omega.{arith}
-use lib.Dec.{leb, ltb}
-use borrow.Author.Tests.{lt-leb, le-leb, lt-ltb, le-ltb}
-use Rattle.sums.specs.Each.{of-yes, less-or-not}
-use Rattle.sums.specs.Sums.{Σ, when, bit, Σ-ext, Σ-add, when-yes}
+use Rattle.sums.specs.Each.{of-yes}
+use Rattle.sums.specs.Sums.{Σ, bit, Σ-ext}
 use Rattle.row.specs.Row.{Row, covers, load, cost, Within, Tight}
+use Rattle.row.specs.Along.{cost-along}
 use Rattle.flow.specs.Balanced.{Proper, loadTo, Deep, Balanced, priceAt}
 
 -- ---- prices along an interval
@@ -22,30 +21,12 @@ unfolding Σ priceAt
 depth N zero rises = omega arith
 depth N (suc n) rises = omega (arith, depth N n (λ j l. rises j (omega arith)), rises n (omega arith))
 
--- a sum below k, as a part of one below n
-below : (n k : ℕ) (f : ℕ → ℕ) → k ≤ n → Σ n (λ j. when (ltb j k) (f j)) ≡ Σ k f
-unfolding Σ
-below zero k f l = let q : k ≡ 0 = omega arith in rw q
-below (suc n) k f l =
-    ⊎-elim
-    (λ (q : k ≡ suc n). rw q (Σ-ext (suc n) _ _ (λ j h. when-yes (ltb j (suc n)) (f j) (lt-ltb j (suc n) h))))
-    (λ (h : k < suc n). rw (le-ltb n k (omega arith)) (omega (arith, below n k f (omega arith))))
-    (eq-or-lt-of-le l)
-
--- the cells below hi are those below lo and those from lo on
-apart : (lo hi j p : ℕ) → lo ≤ hi → when (leb lo j && ltb j hi) p + when (ltb j lo) p ≡ when (ltb j hi) p
-apart lo hi j p o = ⊎-elim (λ l. rw (lt-leb lo j l, lt-ltb j lo l, lt-ltb j hi (le-trans l o)) (omega arith)) (λ l. rw (le-leb lo j l, le-ltb j lo l) (omega arith)) (less-or-not j lo)
-
 -- what candidate i pays is what its last node lies deeper than its first
 pub cost-depth : (row : Row) {N : ℕ → ℕ} → ((j : ℕ) → j < row .cells → N j ≤ N (suc j)) → (i : ℕ) → row .lo i ≤ row .hi i → row .hi i ≤ row .cells → cost row (priceAt N) i + N (row .lo i) ≡ N (row .hi i)
-unfolding cost covers
 cost-depth row {N} rises i ordered inside =
     omega (
       arith,
-      Σ-add (row .cells) (λ j. when (covers row i j) (priceAt N j)) (λ j. when (ltb j (row .lo i)) (priceAt N j)),
-      Σ-ext (row .cells) _ _ (λ j l. apart (row .lo i) (row .hi i) j (priceAt N j) ordered),
-      below (row .cells) (row .lo i) (priceAt N) (le-trans ordered inside),
-      below (row .cells) (row .hi i) (priceAt N) inside,
+      cost-along row (priceAt N) i ordered inside,
       depth N (row .lo i) (λ j l. rises j (omega arith)),
       depth N (row .hi i) (λ j l. rises j (omega arith)),
     )

@@ -4,6 +4,7 @@ pub mod Shapes
 pub mod Tests
 pub mod Judged
 pub mod Records
+pub mod Due
 pub mod Series
 pub mod Spans
 pub mod Orders

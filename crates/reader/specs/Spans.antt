@@ -1,7 +1,8 @@
 -- The span records in turn: span s stands in record 1 + s, and the list takes its limit. Assumes nothing.
-use mathlib.Core.Path.{_≡_, sym, ap, _∙_}
+use mathlib.Core.Path.{_≡_, sym, ap, subst, _∙_}
 use mathlib.Core.List.{List}
-use Prim.Native.Nat.{ℕ, _+_, _<_}
+use Prim.Native.Nat.{ℕ, _+_, _-_, _≤_, _<_}
+use native.Mathlib.Omega.{arith}
 use lib.ListN.{set}
 use Rattle.book.specs.Refusals.{limitIn}
 use Rattle.reader.specs.declared.Network.{Network}
@@ -21,17 +22,30 @@ spanSeries f channels =
 abbrev pub SpansRead : List ℕ → Network → ℕ → Limits → Type 0
 SpansRead f network spans read = InList (spanSeries f (network .channels)) spans network (read .answer) (read .limits)
 
--- what is got where a span is due is that span
-module _ (f : List ℕ) (channels s : ℕ) (r : Reading) (got : Record) (is : r ≡ spanAt f (1 + s) channels) (e : r ≡ Got got) where
-  pub got-span : got ≡ kind.Span (spanIn f (1 + s))
+-- the span due at record r is span r − 1
+after-network : (r : ℕ) → 0 < r → r ≡ 1 + (r - 1)
+after-network r h = omega arith
+
+pub span-due : (f : List ℕ) (channels r : ℕ) → 0 < r → spanAt f r channels ≡ spanSeries f channels .says (r - 1)
+span-due f channels r h = ap (λ (n : ℕ). spanAt f n channels) (after-network r h)
+
+-- what is got there is that span
+module _ (f : List ℕ) (channels r : ℕ) (reading : Reading) (got : Record) (is : reading ≡ spanAt f r channels) (e : reading ≡ Got got) where
+  pub got-span : got ≡ kind.Span (spanIn f r)
   unfolding spanAt
-  got-span = answer-got (spanRow f (1 + s) channels) (1 + s) _ got (sym is ∙ e) .1
+  got-span = answer-got (spanRow f r channels) r _ got (sym is ∙ e) .1
 
   pub span-more :
       (limits : List ℕ) (span : Span)
-      → SoFar (spanSeries f channels) limits s → s < 64 → got ≡ kind.Span span → SoFar (spanSeries f channels) (set limits s (span .limit)) (s + 1)
-  span-more limits span p h k =
-      so-far-more (spanSeries f channels) limits s (span .limit) p h (ap isGot (sym is ∙ e)) limit-is
+      → SoFar (spanSeries f channels) limits (r - 1)
+      → 0 < r
+      → r ≤ 64
+      → got ≡ kind.Span span
+      → SoFar (spanSeries f channels) (set limits (r - 1) (span .limit)) (r + 1 - 1)
+  span-more limits span p h l k =
+      let next : r - 1 + 1 ≡ r + 1 - 1 = omega arith in
+      subst (SoFar (spanSeries f channels) (set limits (r - 1) (span .limit))) next
+      (so-far-more (spanSeries f channels) limits (r - 1) (span .limit) p (omega arith) (ap isGot (sym (span-due f channels r h) ∙ (sym is ∙ e))) limit-is)
     where
-      limit-is : span .limit ≡ limitIn f (1 + s)
-      limit-is = cc (got-span)
+      limit-is : span .limit ≡ limitIn f (1 + (r - 1))
+      limit-is = cc (got-span, ap (limitIn f) (after-network r h))

@@ -1,13 +1,15 @@
 // Reading any order book (document 01, "Order book records" and "Refusals by number"): every byte list is accepted or refused with a fixed
 // number and place. One pass, no copy of the file, nothing assumed of it.
 ghost use Rattle.reader.specs.Says.{Reads, Unread};
+use crate::records::Due;
 
-mod bytes;
+pub mod bytes;
 mod judge;
 mod records;
 mod requests;
 pub mod shapes;
 mod spans;
+mod view;
 
 // A refusal: its number in the table of document 01, and its place.
 pub struct Refusal {
@@ -79,7 +81,7 @@ fn nothing(answer: Answer) -> Taken
 pub fn read_book(file: &[u8]) -> Taken
     ensures { λ r. ⌜ Reads (now (file .entry)) r ⌝ }
 {
-    let reading = records::network_at(file);
+    let reading = view::through_view(file, 0, Due::Network);
     let Reading::Got(got) = reading else {
         let refusal = records::refusal_of(reading);
         return nothing(Answer::Refused(refusal));

@@ -2,6 +2,7 @@
 ghost use mathlib.Core.Path.{_≡_};
 ghost use Prim.Native.Nat.{_+_, _*_, _≤_, _<_};
 ghost use lib.ListN.{length};
+ghost use Rattle.reader.specs.Due.{Placed, recordAt};
 ghost use Rattle.reader.specs.Records as R;
 ghost use Rattle.reader.specs.Series.{refusalOf};
 use crate::Network;
@@ -12,6 +13,13 @@ use crate::Request;
 use crate::Span;
 use crate::bytes;
 use crate::judge;
+
+// What is due at a record, with what it has to agree with; `before` records stand before the part that the requests are read from.
+pub enum Due {
+    Network,
+    Span { channels: usize },
+    Request { before: usize, nodes: usize },
+}
 
 // A record that breaks a row is refused at its place.
 fn answer(row: usize, place: usize, got: Record) -> Reading
@@ -24,15 +32,14 @@ fn answer(row: usize, place: usize, got: Record) -> Reading
 }
 
 // The network, record 0, with the byte count, which is tested first.
-pub fn network_at(file: &[u8]) -> Reading
+fn network_at(file: &[u8]) -> Reading
     ensures { λ r. ⌜ r ≡ R.networkAt (now (file .entry)) ⌝ }
 {
     if judge::count_wrong(file.len()) {
-        let wrong = Refusal {
+        return Reading::Refused(Refusal {
             number: 1,
             place: 0,
-        };
-        return Reading::Refused(wrong);
+        });
     }
     let kind = bytes::byte(file, 0);
     let network = Network {
@@ -46,16 +53,15 @@ pub fn network_at(file: &[u8]) -> Reading
 }
 
 // The span due at a record index, which may be missing.
-pub fn span_at(file: &[u8], index: usize, channels: usize) -> Reading
+fn span_at(file: &[u8], index: usize, channels: usize) -> Reading
     requires { ⌜ (0 < index) × (index ≤ 64) ⌝ }
     ensures { λ r. ⌜ r ≡ R.spanAt (now (file .entry)) index channels ⌝ }
 {
     if file.len() / 16 <= index {
-        let missing = Refusal {
+        return Reading::Refused(Refusal {
             number: 5,
             place: index,
-        };
-        return Reading::Refused(missing);
+        });
     }
     let at = 16 * index;
     let kind = bytes::byte(file, at);
@@ -70,7 +76,7 @@ pub fn span_at(file: &[u8], index: usize, channels: usize) -> Reading
 }
 
 // Request i of the part of the file that follows the spans; `before` records stand before the part.
-pub fn request_at(part: &[u8], i: usize, before: usize, nodes: usize) -> Reading
+fn request_at(part: &[u8], i: usize, before: usize, nodes: usize) -> Reading
     requires { ⌜ (16 * i + 16 ≤ length (now part)) × (before ≤ 65) ⌝ }
     ensures { λ r. ⌜ r ≡ R.requestAt (now (part .entry)) i before nodes ⌝ }
 {
@@ -86,6 +92,18 @@ pub fn request_at(part: &[u8], i: usize, before: usize, nodes: usize) -> Reading
     let rest = bytes::blank(part, at + 12, 4);
     let row = judge::request(i, nodes, kind, mark, request, rest);
     answer(row, before + i, Record::Request(request))
+}
+
+// The record at a position of a slice, as what is due there.
+pub fn record_at(src: &[u8], at: usize, due: Due) -> Reading
+    requires { ⌜ Placed (now src) at due ⌝ }
+    ensures { λ r. ⌜ r ≡ recordAt (now (src .entry)) at due ⌝ }
+{
+    match due {
+        Due::Network => network_at(src),
+        Due::Span { channels } => span_at(src, at, channels),
+        Due::Request { before, nodes } => request_at(src, at, before, nodes),
+    }
 }
 
 // The refusal that a reading is.

@@ -10,6 +10,8 @@ use crate::Record;
 use crate::Refusal;
 use crate::Request;
 use crate::records;
+use crate::records::Due;
+use crate::view;
 
 // The requests, of which the first `count` count where the answer is `Accepted`.
 pub struct Orders {
@@ -41,7 +43,7 @@ pub fn read_requests(part: &[u8], before: usize, network: Network) -> Orders
     let count = part.len() / 16;
     let mut i = 0;
     while i < count {
-        let reading = records::request_at(part, i, before, nodes);
+        let reading = view::through_view(part, i, Due::Request { before, nodes });
         let Reading::Got(got) = reading else {
             let refusal = records::refusal_of(reading);
             return Orders {

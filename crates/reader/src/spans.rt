@@ -7,6 +7,8 @@ use crate::Reading;
 use crate::Record;
 use crate::Refusal;
 use crate::records;
+use crate::records::Due;
+use crate::view;
 
 // The limits, one a span, which count where the answer is `Accepted`.
 pub struct Limits {
@@ -21,9 +23,9 @@ pub fn read_spans(file: &[u8], network: Network, spans: usize) -> Limits
 {
     let channels = network.channels;
     let mut limits = [0usize; 64];
-    let mut s = 0;
-    while s < spans {
-        let reading = records::span_at(file, 1 + s, channels);
+    let mut at = 1;
+    while at <= spans {
+        let reading = view::through_view(file, at, Due::Span { channels });
         let Reading::Got(got) = reading else {
             let refusal = records::refusal_of(reading);
             return Limits {
@@ -34,15 +36,15 @@ pub fn read_spans(file: &[u8], network: Network, spans: usize) -> Limits
         let Record::Span(span) = got else {
             let refusal = Refusal {
                 number: 5,
-                place: 1 + s,
+                place: at,
             };
             return Limits {
                 answer: Answer::Refused(refusal),
                 limits,
             };
         };
-        limits[s] = span.limit;
-        s += 1;
+        limits[at - 1] = span.limit;
+        at += 1;
     }
     Limits {
         answer: Answer::Accepted(network),

@@ -5,3 +5,4 @@ pub mod Answers
 pub mod Meets
 pub mod Channels
 pub mod Same
+pub mod Along

@@ -12,8 +12,8 @@ use borrow.Author.Needs.{needs}
 use Rattle.reader.proofs.read_book.Statement.{statement}
 use Rattle.reader.proofs.read_book.Tie as tie
 
-network-at-requires : tie.Need-network-at-requires
-network-at-requires c κs = search needs
+through-view-requires : tie.Need-through-view-requires
+through-view-requires c κs = search needs
 
 enum-known-reading : tie.Need-enum-known-reading
 enum-known-reading c = search needs
@@ -31,7 +31,7 @@ returns : tie.Need-returns
 returns c =
     let told = c .before .before in
     not-read _ _ _ _ (c .nothing .ensures) refl
-    (network-refused _ _ (the-refusal _ _ _ _ (told .before .before .network-at .ensures) (told .enum-told .given .1) (c .before .refusal-of .ensures)))
+    (network-refused _ _ (the-refusal _ _ _ _ (told .before .before .through-view .ensures) (told .enum-told .given .1) (c .before .refusal-of .ensures)))
 
 enum-known-got : tie.Need-enum-known-got
 enum-known-got c = search needs
@@ -44,14 +44,14 @@ returns-2 c =
     let reading = c .before .before .before in
     absurd
     (no-other 0 1 2 tt tt
-    (rw (got-network _ _ (sym (reading .before .before .network-at .ensures) ∙ reading .reading .given .1)) at (c .before .match2 .keys2)))
+    (rw (got-network _ _ (sym (reading .before .before .through-view .ensures) ∙ reading .reading .given .1)) at (c .before .match2 .keys2)))
 
 -- the network was got, and its spans counted
 counted : (c : tie.After-spans-of) → Begun (now (c .before .before .before .before .before .before .before .before .before .args .file)) (c .before .before .got .given .0 .0) (c .spans-of .result)
 counted c =
     let kind = c .before .before in
     let reading = kind .before .before .before in
-    begun _ _ _ _ _ (reading .before .before .network-at .ensures) (reading .reading .given .1) (kind .got .given .1) (c .spans-of .ensures)
+    begun _ _ _ _ _ (reading .before .before .through-view .ensures) (reading .reading .given .1) (kind .got .given .1) (c .spans-of .ensures)
 
 at-most : (c : tie.After-spans-of) → c .spans-of .result ≤ 64
 at-most c = omega (arith, counted c .n-is, counted c .head .most)
@@ -114,7 +114,7 @@ pub read-book-spec : {M : Type 1} → statement M
 read-book-spec =
     tie.close
     (tie.spec
-    network-at-requires
+    through-view-requires
     enum-known-reading
     enum-told
     refusal-of-requires

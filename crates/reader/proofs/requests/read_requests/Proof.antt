@@ -24,8 +24,8 @@ no-request-requires c κs = search needs
 loop-holds : tie.Need-loop-holds Inv-loop μ-loop
 loop-holds c = (omega arith, omega arith, so-far-none _ (replicate 256 _) refl)
 
-request-at-requires : tie.Need-request-at-requires Inv-loop μ-loop
-request-at-requires c κs = omega arith
+through-view-requires : tie.Need-through-view-requires Inv-loop μ-loop
+through-view-requires c κs = omega arith
 
 enum-known-reading : tie.Need-enum-known-reading Inv-loop μ-loop
 enum-known-reading c = search needs
@@ -44,28 +44,28 @@ returns c =
     record {
       within = turn .loop .inv .1;
       all = λ t. absurd (of-yes t);
-      inList = stopped-here _ _ _ (turn .loop .i) _ _ _ _ (turn .loop .inv .2) (call .before .loop-test .taken) (call .request-at .ensures) (c .before .enum-told .given .1) (c .refusal-of .ensures);
+      inList = stopped-here _ _ _ (turn .loop .i) _ _ _ _ (turn .loop .inv .2) (call .before .loop-test .taken) (call .through-view .ensures) (c .before .enum-told .given .1) (c .refusal-of .ensures);
     }
 
 enum-known-got : tie.Need-enum-known-got Inv-loop μ-loop
 enum-known-got c = search needs
 
-add-t18 : tie.Need-add-t18 Inv-loop μ-loop
-add-t18 c = omega arith
+add-t19 : tie.Need-add-t19 Inv-loop μ-loop
+add-t19 c = omega arith
 
 returns-2 : tie.Need-returns-2 Inv-loop μ-loop
 returns-2 c =
     let reading = c .before .before in
     let call = reading .before .before in
     let turn = call .before .before in
-    absurd (no-other 2 0 1 tt tt (rw (got-request _ _ _ (turn .loop .i) _ _ (call .request-at .ensures) (reading .reading .given .1)) at (c .match2 .keys2)))
+    absurd (no-other 2 0 1 tt tt (rw (got-request _ _ _ (turn .loop .i) _ _ (call .through-view .ensures) (reading .reading .given .1)) at (c .match2 .keys2)))
 
 -- a request got is one of 256
 in-room : (c : tie.After-known-told2 Inv-loop μ-loop) → c .before .before .before .before .before .before .before .before .loop .i < 256
 in-room c =
     let reading = c .before .before .before .before in
     let call = reading .before .before in
-    request-within _ _ _ _ _ _ (call .request-at .ensures) (reading .reading .given .1)
+    request-within _ _ _ _ _ _ (call .through-view .ensures) (reading .reading .given .1)
 
 mul-requests : tie.Need-mul-requests Inv-loop μ-loop
 mul-requests c = omega arith
@@ -85,7 +85,7 @@ loop-again c =
     let reading = kind .before .before .before in
     let call = reading .before .before in
     let turn = call .before .before in
-    (omega arith, omega (arith, in-room c), request-more _ _ _ _ _ _ (call .request-at .ensures) (reading .reading .given .1) _ _ (turn .loop .inv .2) (kind .got .given .1))
+    (omega arith, omega (arith, in-room c), request-more _ _ _ _ _ _ (call .through-view .ensures) (reading .reading .given .1) _ _ (turn .loop .inv .2) (kind .got .given .1))
 
 returns-3 : tie.Need-returns-3 Inv-loop μ-loop
 unfolding records
@@ -105,13 +105,13 @@ read-requests-spec =
     μ-loop
     no-request-requires
     loop-holds
-    request-at-requires
+    through-view-requires
     enum-known-reading
     enum-told
     refusal-of-requires
     returns
     enum-known-got
-    add-t18
+    add-t19
     returns-2
     mul-requests
     array-set-from-requests

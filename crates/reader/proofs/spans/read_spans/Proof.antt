@@ -1,28 +1,25 @@
 -- `reader::spans::read_spans` meets its contract: every span passed was got, and its limit stands in the list. Assumes nothing.
-use mathlib.Core.Path.{refl}
+use mathlib.Core.Path.{refl, _∙_}
 use lib.ListN.{replicate}
-use Prim.Native.Nat.{_-_, _≤_}
+use Prim.Native.Nat.{_+_, _-_, _≤_, _<_}
 use native.Mathlib.Omega.{arith}
 use borrow.Author.Needs.{needs}
 use Rattle.reader.specs.Series.{SoFar, no-other, so-far-none, stopped-here, all-read}
-use Rattle.reader.specs.Spans.{spanSeries, got-span, span-more}
+use Rattle.reader.specs.Spans.{spanSeries, span-due, got-span, span-more}
 use Rattle.reader.proofs.spans.read_spans.Statement.{statement}
 use Rattle.reader.proofs.spans.read_spans.Tie as tie
 
 abbrev Inv-loop : tie.InvT-loop
-Inv-loop file network spans channels limits₀ s₀ limits s = (s ≤ spans) × SoFar (spanSeries file channels) limits s
+Inv-loop file network spans channels limits₀ at₀ limits at = (0 < at) × (at ≤ spans + 1) × SoFar (spanSeries file channels) limits (at - 1)
 
 abbrev μ-loop : tie.MeasureT-loop
-μ-loop file network spans channels limits₀ s₀ limits s = spans - s
+μ-loop file network spans channels limits₀ at₀ limits at = spans + 1 - at
 
 loop-holds : tie.Need-loop-holds Inv-loop μ-loop
-loop-holds c = (omega arith, so-far-none _ (replicate 64 0) refl)
+loop-holds c = (omega arith, omega arith, so-far-none _ (replicate 64 0) refl)
 
-add-span-at : tie.Need-add-span-at Inv-loop μ-loop
-add-span-at c = omega arith
-
-span-at-requires : tie.Need-span-at-requires Inv-loop μ-loop
-span-at-requires c κs = search needs
+through-view-requires : tie.Need-through-view-requires Inv-loop μ-loop
+through-view-requires c κs = (omega arith, omega arith)
 
 enum-known-reading : tie.Need-enum-known-reading Inv-loop μ-loop
 enum-known-reading c = search needs
@@ -37,20 +34,20 @@ returns : tie.Need-returns Inv-loop μ-loop
 returns c =
     let call = c .before .before .before in
     let turn = call .before .before in
-    stopped-here _ _ _ (turn .loop .s) _ _ _ _ (turn .loop .inv .1) (call .before .loop-test .taken) (call .span-at .ensures) (c .before .enum-told .given .1) (c .refusal-of .ensures)
+    stopped-here _ _ _ (turn .loop .at - 1) _ _ _ _ (turn .loop .inv .2) (omega arith) (call .through-view .ensures ∙ span-due _ _ _ (turn .loop .inv .0)) (c .before .enum-told .given .1) (c .refusal-of .ensures)
 
 enum-known-got : tie.Need-enum-known-got Inv-loop μ-loop
 enum-known-got c = search needs
-
-add-t16 : tie.Need-add-t16 Inv-loop μ-loop
-add-t16 c = omega arith
 
 returns-2 : tie.Need-returns-2 Inv-loop μ-loop
 returns-2 c =
     let reading = c .before .before in
     let call = reading .before .before in
     let turn = call .before .before in
-    absurd (no-other 1 0 2 tt tt (rw (got-span _ _ (turn .loop .s) _ _ (call .span-at .ensures) (reading .reading .given .1)) at (c .match2 .keys2)))
+    absurd (no-other 1 0 2 tt tt (rw (got-span _ _ (turn .loop .at) _ _ (call .through-view .ensures) (reading .reading .given .1)) at (c .match2 .keys2)))
+
+sub-limits : tie.Need-sub-limits Inv-loop μ-loop
+sub-limits c = omega arith
 
 mul-limits : tie.Need-mul-limits Inv-loop μ-loop
 mul-limits c = omega arith
@@ -58,8 +55,8 @@ mul-limits c = omega arith
 array-write-limits : tie.Need-array-write-limits Inv-loop μ-loop
 array-write-limits c = omega arith
 
-add-s : tie.Need-add-s Inv-loop μ-loop
-add-s c = omega arith
+add-at : tie.Need-add-at Inv-loop μ-loop
+add-at c = omega arith
 
 loop-less : tie.Need-loop-less Inv-loop μ-loop
 loop-less c = omega arith
@@ -70,10 +67,10 @@ loop-again c =
     let reading = kind .before .before .before in
     let call = reading .before .before in
     let turn = call .before .before in
-    (omega arith, span-more _ _ _ _ _ (call .span-at .ensures) (reading .reading .given .1) _ _ (turn .loop .inv .1) (omega arith) (kind .got .given .1))
+    (omega arith, omega arith, span-more _ _ _ _ _ (call .through-view .ensures) (reading .reading .given .1) _ _ (turn .loop .inv .2) (omega arith) (omega arith) (kind .got .given .1))
 
 returns-3 : tie.Need-returns-3 Inv-loop μ-loop
-returns-3 c = all-read _ _ _ (c .before .loop .s) _ (c .before .loop .inv .1) (omega arith)
+returns-3 c = all-read _ _ _ (c .before .loop .at - 1) _ (c .before .loop .inv .2) (omega arith)
 
 pub read-spans-spec : {M : Type 1} → statement M
 read-spans-spec =
@@ -82,18 +79,17 @@ read-spans-spec =
     Inv-loop
     μ-loop
     loop-holds
-    add-span-at
-    span-at-requires
+    through-view-requires
     enum-known-reading
     enum-told
     refusal-of-requires
     returns
     enum-known-got
-    add-t16
     returns-2
+    sub-limits
     mul-limits
     array-write-limits
-    add-s
+    add-at
     loop-less
     loop-again
     returns-3)

@@ -1,0 +1,38 @@
+-- `page::page` meets its contract: the planner refuses or plans, and what it answers is printed. Assumes nothing.
+use borrow.Author.Needs.{needs}
+use Rattle.page.specs.Page.{page-refused, page-printable, page-planned}
+use Rattle.page.proofs.page.Statement.{statement}
+use Rattle.page.proofs.page.Tie as tie
+
+plan-book-requires : tie.Need-plan-book-requires
+plan-book-requires c κs = search needs
+
+enum-known-answer : tie.Need-enum-known-answer
+enum-known-answer c = search needs
+
+print-refusal-requires : tie.Need-print-refusal-requires
+print-refusal-requires c κs = search needs
+
+enum-known-answer-2 : tie.Need-enum-known-answer-2
+enum-known-answer-2 c = search needs
+
+print-plan-requires : tie.Need-print-plan-requires
+print-plan-requires c κs = page-printable (c .before .before .before .before .before .before .before .before .before .before .plan-book .ensures) (c .before .before .before .before .before .answer2 .given .1)
+
+returns : tie.Need-returns
+returns c = page-refused (c .before .before .before .before .before .before .before .before .plan-book .ensures) (c .before .before .before .answer .given .1) (c .print-refusal .ensures)
+
+returns-2 : tie.Need-returns-2
+returns-2 c = page-planned (c .before .before .before .before .before .before .before .before .before .before .before .plan-book .ensures) (c .before .before .before .before .before .before .answer2 .given .1) (c .print-plan .ensures)
+
+pub page-spec : {M : Type 1} → statement M
+page-spec =
+    tie.close
+    (tie.spec
+    plan-book-requires
+    enum-known-answer
+    print-refusal-requires
+    enum-known-answer-2
+    print-plan-requires
+    returns
+    returns-2)

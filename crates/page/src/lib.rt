@@ -1,0 +1,32 @@
+// The page that the printing program writes for a book (document 01, "Books and figures"): its plan, or the one line of its refusal.
+ghost use Rattle.page.specs.Page.{Paged};
+use planner::Answer;
+
+// Writes the page of a book at the front of the buffer and answers its length.
+pub fn page(file: &[u8], out: &mut [u8; 4096]) -> usize
+    ensures { λ r. ⌜ Paged (now (file .entry)) (now (out .exit)) r ⌝ }
+{
+    let plan = planner::plan_book(file, 256, 64);
+    let answer = plan.answer;
+    let a = plan.a;
+    let b = plan.b;
+    let entries = plan.entries;
+    match answer {
+        Answer::Refused(refusal) => print::print_refusal(out, refusal.number, refusal.place),
+        Answer::Planned {
+            earned,
+            number,
+            cut,
+        } => print::print_plan(
+            out,
+            plan.shape,
+            plan.count,
+            earned,
+            number,
+            cut,
+            &a,
+            &b,
+            &entries,
+        ),
+    }
+}

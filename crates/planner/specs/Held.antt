@@ -1,0 +1,186 @@
+-- The planner on an accepted book. 12 comes first; then a line's plan is the line planner's and a ring's is the ring planner's, and each is a plan as the
+-- operations have it. Assumes nothing.
+use mathlib.Core.Bool.{Bool, true, false, _&&_, _||_}
+use mathlib.Core.List.{List}
+use mathlib.Core.Logic.{⊎-elim}
+use mathlib.Core.Path.{_≡_, refl, sym, ap, _∙_}
+use Prim.Native.Nat.{ℕ, _-_}
+use native.Mathlib.Omega.{arith}
+use lib.Dec.{eqb, ltb}
+use Rattle.sums.specs.Each.{decided}
+use Rattle.book.specs.Book.{Book, spans, spansOf, count}
+use Rattle.book.specs.Columns.{at}
+use Rattle.book.specs.Reading.{done, refused, andThen}
+use Rattle.rules.specs.Plans.{earnings, numberKept}
+use Rattle.rules.specs.Cuts.{cut, cutShown}
+use Rattle.rules.specs.Operations.{placesShort, plannableIn}
+use Rattle.rings.specs.Never15.{line-plan, ring-plan}
+use Rattle.reader.specs.declared.Network.{Network}
+use Rattle.reader.specs.declared.Refusal.{Refusal}
+use Rattle.reader.specs.declared.Taken.{Taken}
+use Rattle.reader.specs.declared.Answer.the-variants.{Accepted, Refused}
+use Rattle.reader.specs.Says.{Reads}
+use Rattle.columns.specs.declared.RequestColumns.{RequestColumns}
+use Rattle.columns.specs.Columned.{Columned}
+use Rattle.columns.specs.Seam.{HeldBook, accepted, not-accepted}
+use Rattle.line.specs.declared.Solved.{Solved}
+use Rattle.line.specs.Promise.{CanPlanLine, LinePlanned}
+use Rattle.ring.specs.Promise.{CanPlanRing, RingPlanned}
+use Rattle.planner.specs.declared.BookPlan.{BookPlan}
+use Rattle.planner.specs.declared.Answer.{Answer}
+use Rattle.planner.specs.Promise.{answered, Refusing, PlanOf, BookPlanned}
+
+-- the accepted book is refused by 12, or planned
+pub record HeldPlanned (book : Book) (entryPlaces pricePlaces : ℕ) (r : BookPlan) : Type 0 where
+  pub short : placesShort book entryPlaces pricePlaces ≡ true → Refusing (record { number = 12; place = 0 }) r
+  pub long : placesShort book entryPlaces pricePlaces ≡ false → PlanOf book r
+
+line-shown : (book : Book) → book .shape ≡ 1 → cutShown book ≡ 65535
+unfolding cutShown
+line-shown book e = rw e
+
+ring-shown : (book : Book) → book .shape ≡ 2 → cutShown book ≡ cut book
+unfolding cutShown
+ring-shown book e = rw e
+
+line-spans : (book : Book) → book .shape ≡ 1 → spans book ≡ book .nodes - 1
+unfolding spans spansOf
+line-spans book e = rw e
+
+ring-spans : (book : Book) → book .shape ≡ 2 → spans book ≡ book .nodes
+unfolding spans spansOf
+ring-spans book e = rw e
+
+-- the line planner's answer is the plan of the line
+pub on-line :
+    {nodes channels n : ℕ} {limits a b profits entries prices : List ℕ} {solved : Solved} {answer : Answer} (w : CanPlanLine nodes channels n limits a b profits)
+    → LinePlanned (w .book) solved entries prices → answer ≡ answered solved 65535
+    → PlanOf (w .book) (record { answer = answer; shape = 1; spans = nodes - 1; count = n; a = a; b = b; entries = entries; prices = prices })
+unfolding answered
+on-line {entries} w made says =
+    let book = w .book in
+    record {
+      earned = earnings book (at entries);
+      number = numberKept book (at entries);
+      cut = 65535;
+      says = says ∙ ap (λ (s : Solved). answered s 65535) (made .says);
+      planned = record {
+        fair = made .best-plan .fair;
+        best-there = rw (line-plan book (w .line .line)) (made .best-plan);
+        channels = rw (line-plan book (w .line .line)) (made .by-rule);
+        earned-is = refl;
+        number-is = refl;
+        cut-is = sym (line-shown book (w .line .line));
+      };
+      priced = λ e. record { small = made .prices-upto; accepted = made .accepted };
+      sound = w .line .sound;
+      shape-is = sym (w .line .line);
+      spans-is = omega (arith, line-spans book (w .line .line), w .nodes-is);
+      count-is = w .holds .counted;
+      a-is = λ i h. w .holds .a-is i (omega (arith, w .holds .counted));
+      b-is = λ i h. w .holds .b-is i (omega (arith, w .holds .counted));
+    }
+
+-- the ring planner's answer is the plan of the ring; a ring has no prices
+pub on-ring :
+    {nodes channels n shown : ℕ} {limits a b profits entries prices : List ℕ} {solved : Solved} {answer : Answer} (w : CanPlanRing nodes channels n limits a b profits)
+    → RingPlanned (w .book) solved shown entries → answer ≡ answered solved shown
+    → PlanOf (w .book) (record { answer = answer; shape = 2; spans = nodes; count = n; a = a; b = b; entries = entries; prices = prices })
+unfolding answered
+on-ring {shown} {entries} w made says =
+    let book = w .book in
+    record {
+      earned = earnings book (at entries);
+      number = numberKept book (at entries);
+      cut = shown;
+      says = says ∙ ap (λ (s : Solved). answered s shown) (made .says);
+      planned = record {
+        fair = made .fair;
+        best-there = rw (ring-plan book (w .ring .ring)) (made .best-plan);
+        channels = rw (ring-plan book (w .ring .ring)) (made .by-rule);
+        earned-is = refl;
+        number-is = refl;
+        cut-is = made .cut-is ∙ sym (ring-shown book (w .ring .ring));
+      };
+      priced = λ e. absurd (omega (arith, w .ring .ring));
+      sound = w .ring .sound;
+      shape-is = sym (w .ring .ring);
+      spans-is = omega (arith, ring-spans book (w .ring .ring), w .nodes-is);
+      count-is = w .holds .counted;
+      a-is = λ i h. w .holds .a-is i (omega (arith, w .holds .counted));
+      b-is = λ i h. w .holds .b-is i (omega (arith, w .holds .counted));
+    }
+
+-- the test of 12 on the numbers that hold the book
+pub short-is :
+    {net : Network} {n spansN : ℕ} {limits a b profits : List ℕ} {t : Bool} (entryPlaces pricePlaces : ℕ) (held : HeldBook net n limits a b profits) → spansN ≡ spansOf (net .shape) (net .nodes)
+    → t ≡ (ltb entryPlaces n || (eqb (net .shape) 1 && ltb pricePlaces spansN)) → placesShort (held .book) entryPlaces pricePlaces ≡ t
+unfolding placesShort spans count
+short-is entryPlaces pricePlaces held s e = rw (held .shape-is, held .nodes-is, ← held .holds .counted, e, s)
+
+-- 12, and a plan where it is not 12
+pub held-short : {book : Book} {entryPlaces pricePlaces : ℕ} {r : BookPlan} → placesShort book entryPlaces pricePlaces ≡ true → Refusing (record { number = 12; place = 0 }) r → HeldPlanned book entryPlaces pricePlaces r
+held-short t says = record { short = λ e. says; long = λ e. let z : _≡_ {A = ℕ} 0 1 = cc in absurd (omega arith) }
+
+pub held-long : {book : Book} {entryPlaces pricePlaces : ℕ} {r : BookPlan} → placesShort book entryPlaces pricePlaces ≡ false → PlanOf book r → HeldPlanned book entryPlaces pricePlaces r
+held-long t plan = record { short = λ e. let z : _≡_ {A = ℕ} 0 1 = cc in absurd (omega arith); long = λ e. plan }
+
+-- a held book of shape 1 is a line, and any other a ring
+abbrev pub held-line :
+    {net : Network} {n : ℕ} {limits a b profits : List ℕ} → net .shape ≡ 1 → HeldBook net n limits a b profits → CanPlanLine (net .nodes) (net .channels) n limits a b profits
+held-line e held =
+    record {
+      book = held .book;
+      line = record { line = held .shape-is ∙ e; sound = held .sound };
+      nodes-is = sym (held .nodes-is);
+      channels-is = sym (held .channels-is);
+      holds = held .holds;
+    }
+
+abbrev pub held-ring :
+    {net : Network} {n : ℕ} {limits a b profits : List ℕ} → (net .shape ≡ 1 → ⊥) → HeldBook net n limits a b profits → CanPlanRing (net .nodes) (net .channels) n limits a b profits
+held-ring other held =
+    record {
+      book = held .book;
+      ring = record { ring = ⊎-elim (λ e. absurd (other (sym (held .shape-is) ∙ e))) (λ e. e) (held .sound .shaped); sound = held .sound };
+      nodes-is = sym (held .nodes-is);
+      channels-is = sym (held .channels-is);
+      holds = held .holds;
+    }
+
+-- ---- any file
+
+refused-by :
+    {file : List ℕ} {entryPlaces pricePlaces number place : ℕ} {r : BookPlan} → plannableIn file entryPlaces pricePlaces ≡ refused number place
+    → Refusing (record { number = number; place = place }) r → BookPlanned file entryPlaces pricePlaces r
+refused-by {number} {place} is says =
+    record {
+      refusal = λ n p e. let same-number : number ≡ n = cc in let same-place : place ≡ p = cc in rw (← same-number, ← same-place) (says .says);
+      plan = λ book e. let z : _≡_ {A = ℕ} 0 1 = cc in absurd (omega arith);
+    }
+
+planned-by :
+    {file : List ℕ} {entryPlaces pricePlaces : ℕ} {book : Book} {r : BookPlan} → plannableIn file entryPlaces pricePlaces ≡ done book → PlanOf book r → BookPlanned file entryPlaces pricePlaces r
+planned-by {book} {r} is plan =
+    record {
+      refusal = λ n p e. let z : _≡_ {A = ℕ} 0 1 = cc in absurd (omega arith);
+      plan = λ other e. let same : book ≡ other = cc in rw same at plan;
+    }
+
+-- a file that is not read is refused as the reader says
+pub unread :
+    {file : List ℕ} {taken : Taken} {refusal : Refusal} {r : BookPlan} (entryPlaces pricePlaces : ℕ) → Reads file taken → taken .answer ≡ Refused refusal → Refusing refusal r
+    → BookPlanned file entryPlaces pricePlaces r
+unfolding plannableIn andThen
+unread entryPlaces pricePlaces reads e says = refused-by (rw (not-accepted reads e)) says
+
+-- a file that is read is planned as its book is
+pub read :
+    {file : List ℕ} {taken : Taken} {net : Network} {cols : RequestColumns} {entryPlaces pricePlaces : ℕ} {r : BookPlan} → Reads file taken → taken .answer ≡ Accepted net
+    → Columned (taken .requests) (taken .count) cols
+    → ((held : HeldBook net (taken .count) (taken .limits) (cols .a) (cols .b) (cols .profit)) → HeldPlanned (held .book) entryPlaces pricePlaces r) → BookPlanned file entryPlaces pricePlaces r
+unfolding plannableIn andThen
+read {entryPlaces} {pricePlaces} reads e made planned =
+    let seam = accepted reads e made in
+    let how = planned (seam .0) in
+    ⊎-elim (λ t. refused-by (rw (seam .1, t)) (how .short t)) (λ t. planned-by (rw (seam .1, t)) (how .long t)) (decided (placesShort (seam .0 .book) entryPlaces pricePlaces))

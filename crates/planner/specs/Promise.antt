@@ -1,0 +1,45 @@
+-- What the planner promises of any file, in the words of 01. Assumes nothing.
+use mathlib.Core.List.{List}
+use mathlib.Core.Path.{_≡_}
+use Prim.Native.Nat.{ℕ, _<_}
+use Rattle.book.specs.Book.{Book, spans, count, endA, endB}
+use Rattle.book.specs.Columns.{at}
+use Rattle.book.specs.Sound.{Sound}
+use Rattle.book.specs.Reading.{done, refused}
+use Rattle.rules.specs.Operations as O
+use Rattle.rules.specs.Operations.{plannableIn, Priced}
+use Rattle.reader.specs.declared.Refusal.{Refusal}
+use Rattle.line.specs.declared.Solved as Solving
+use Rattle.line.specs.declared.Solved.{Solved}
+use Rattle.planner.specs.declared.Answer.{Answer}
+use Rattle.planner.specs.declared.Answer.the-variants.{Planned, Refused}
+use Rattle.planner.specs.declared.BookPlan.{BookPlan}
+
+-- the answer of a line's or a ring's plan; its second case is refusal 15, which never happens
+unfoldable pub answered : Solved → ℕ → Answer
+answered (Solving.the-variants.Planned earned number) cut = Planned earned number cut
+answered (Solving.the-variants.NoneLeft request) cut = Refused (record { number = 15; place = request })
+
+-- a refusal and no plan
+pub record Refusing (refusal : Refusal) (r : BookPlan) : Type 0 where
+  pub says : r .answer ≡ Refused refusal
+
+-- a plan of an accepted book: its numbers, its entries and, on a line, its prices
+pub record PlanOf (book : Book) (r : BookPlan) : Type 0 where
+  pub earned : ℕ
+  pub number : ℕ
+  pub cut : ℕ
+  pub says : r .answer ≡ Planned earned number cut
+  pub planned : O.Planned book (at (r .entries)) earned number cut
+  pub priced : book .shape ≡ 1 → Priced book (at (r .entries)) (at (r .prices))
+  pub sound : Sound book
+  pub shape-is : r .shape ≡ book .shape
+  pub spans-is : r .spans ≡ spans book
+  pub count-is : r .count ≡ count book
+  pub a-is : (i : ℕ) → i < count book → at (r .a) i ≡ endA book i
+  pub b-is : (i : ℕ) → i < count book → at (r .b) i ≡ endB book i
+
+-- the book's refusals and then 12, or a plan
+pub record BookPlanned (file : List ℕ) (entryPlaces pricePlaces : ℕ) (r : BookPlan) : Type 0 where
+  pub refusal : (n p : ℕ) → plannableIn file entryPlaces pricePlaces ≡ refused n p → r .answer ≡ Refused (record { number = n; place = p })
+  pub plan : (book : Book) → plannableIn file entryPlaces pricePlaces ≡ done book → PlanOf book r

@@ -1,0 +1,185 @@
+// The planner of document 01 on any file: reads the book, plans its line or its ring, and answers with numbers. It writes nowhere: what is handed to the
+// desk's lists or printed is made from its answer.
+ghost use mathlib.Core.Path.{_≡_};
+ghost use mathlib.Core.Bool.{_&&_, _||_};
+ghost use lib.Dec.{eqb, ltb};
+ghost use Rattle.columns.specs.Seam.{HeldBook};
+ghost use Rattle.line.specs.Promise.{CanPlanLine};
+ghost use Rattle.ring.specs.Promise.{CanPlanRing};
+ghost use Rattle.planner.specs.Promise.{answered, Refusing, PlanOf, BookPlanned};
+ghost use Rattle.planner.specs.Held.{HeldPlanned};
+use columns::RequestColumns;
+use line::Solved;
+use reader::Network;
+use reader::Refusal;
+
+// What planning a book comes to.
+pub enum Answer {
+    Planned {
+        earned: usize,
+        number: usize,
+        cut: usize,
+    },
+    Refused(Refusal),
+}
+
+// The answer; where it is `Planned`, the book's shape, its numbers of spans and requests, both ends of each request, an entry for each request and, on a
+// line, a price for each span. (An enum holds no array.)
+pub struct BookPlan {
+    pub answer: Answer,
+    pub shape: usize,
+    pub spans: usize,
+    pub count: usize,
+    pub a: [usize; 256],
+    pub b: [usize; 256],
+    pub entries: [usize; 256],
+    pub prices: [usize; 64],
+}
+
+// No plan, and this is why.
+fn refuse(refusal: Refusal) -> BookPlan
+    ensures { λ r. ⌜ Refusing refusal r ⌝ }
+{
+    BookPlan {
+        answer: Answer::Refused(refusal),
+        shape: 0,
+        spans: 0,
+        count: 0,
+        a: [0usize; 256],
+        b: [0usize; 256],
+        entries: [0usize; 256],
+        prices: [0usize; 64],
+    }
+}
+
+// The answer of a line's or a ring's plan. (Refusal 15 is proved never to happen.)
+fn answer_of(solved: Solved, cut: usize) -> Answer
+    ensures { λ r. ⌜ r ≡ answered solved cut ⌝ }
+{
+    match solved {
+        Solved::Planned { earned, number } => Answer::Planned {
+            earned,
+            number,
+            cut,
+        },
+        Solved::NoneLeft(request) => Answer::Refused(Refusal {
+            number: 15,
+            place: request,
+        }),
+    }
+}
+
+// 12: a list lent for the entries, or on a line for the prices, has too few places.
+fn short(shape: usize, spans: usize, count: usize, entry_places: usize, price_places: usize) -> bool
+    ensures { λ r. ⌜ r ≡ (ltb «entry_places» count || (eqb shape 1 && ltb «price_places» spans)) ⌝ }
+{
+    if entry_places < count {
+        return true;
+    }
+    if shape == 1 {
+        return price_places < spans;
+    }
+    false
+}
+
+// The plan of an accepted line.
+fn plan_on_line(
+    nodes: usize,
+    channels: usize,
+    count: usize,
+    limits: [usize; 64],
+    cols: RequestColumns,
+) -> BookPlan
+    requires { ⌜ CanPlanLine nodes channels count limits (cols .a) (cols .b) (cols .profit) ⌝ }
+    ensures { λ r. ⌜ ((w : CanPlanLine nodes channels count limits (cols .a) (cols .b) (cols .profit)) → PlanOf (w .book) r) ⌝ }
+{
+    let a = cols.a;
+    let b = cols.b;
+    let profit = cols.profit;
+    let plan = line::plan_line(nodes, channels, count, &limits, &a, &b, &profit);
+    let solved = plan.answer;
+    let entries = plan.entries;
+    let prices = plan.prices;
+    BookPlan {
+        answer: answer_of(solved, 65535),
+        shape: 1,
+        spans: nodes - 1,
+        count: count,
+        a: a,
+        b: b,
+        entries: entries,
+        prices: prices,
+    }
+}
+
+// The plan of an accepted ring, which has no prices.
+fn plan_on_ring(
+    nodes: usize,
+    channels: usize,
+    count: usize,
+    limits: [usize; 64],
+    cols: RequestColumns,
+) -> BookPlan
+    requires { ⌜ CanPlanRing nodes channels count limits (cols .a) (cols .b) (cols .profit) ⌝ }
+    ensures { λ r. ⌜ ((w : CanPlanRing nodes channels count limits (cols .a) (cols .b) (cols .profit)) → PlanOf (w .book) r) ⌝ }
+{
+    let a = cols.a;
+    let b = cols.b;
+    let profit = cols.profit;
+    let plan = ring::plan_ring(nodes, channels, count, &limits, &a, &b, &profit);
+    let solved = plan.answer;
+    let entries = plan.entries;
+    BookPlan {
+        answer: answer_of(solved, plan.cut),
+        shape: 2,
+        spans: nodes,
+        count: count,
+        a: a,
+        b: b,
+        entries: entries,
+        prices: [0usize; 64],
+    }
+}
+
+// The plan of an accepted book, or 12.
+fn plan_held(
+    net: Network,
+    limits: [usize; 64],
+    count: usize,
+    cols: RequestColumns,
+    entry_places: usize,
+    price_places: usize,
+) -> BookPlan
+    requires { ⌜ HeldBook net count limits (cols .a) (cols .b) (cols .profit) ⌝ }
+    ensures { λ r. ⌜ ((held : HeldBook net count limits (cols .a) (cols .b) (cols .profit)) → HeldPlanned (held .book) «entry_places» «price_places» r) ⌝ }
+{
+    let spans = reader::shapes::spans_of(net.shape, net.nodes);
+    if short(net.shape, spans, count, entry_places, price_places) {
+        return refuse(Refusal {
+            number: 12,
+            place: 0,
+        });
+    }
+    if net.shape == 1 {
+        return plan_on_line(net.nodes, net.channels, count, limits, cols);
+    }
+    plan_on_ring(net.nodes, net.channels, count, limits, cols)
+}
+
+// Plans the book for lists with this many places for entries and for prices.
+pub fn plan_book(file: &[u8], entry_places: usize, price_places: usize) -> BookPlan
+    ensures { λ r. ⌜ BookPlanned (now (file .entry)) «entry_places» «price_places» r ⌝ }
+{
+    let taken = reader::read_book(file);
+    let answer = taken.answer;
+    let count = taken.count;
+    let limits = taken.limits;
+    let requests = taken.requests;
+    match answer {
+        reader::Answer::Refused(refusal) => refuse(refusal),
+        reader::Answer::Accepted(net) => {
+            let cols = columns::columns(requests, count);
+            plan_held(net, limits, count, cols, entry_places, price_places)
+        }
+    }
+}

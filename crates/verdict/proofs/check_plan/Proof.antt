@@ -1,0 +1,48 @@
+-- `verdict::check_plan` meets its contract: the reader's refusal is the checker's, and an accepted book is checked by its columns. Assumes nothing.
+use borrow.Author.Needs.{needs}
+use Rattle.columns.specs.Seam.{accepted, not-accepted}
+use Rattle.verdict.specs.Checked.{checkedOf}
+use Rattle.verdict.specs.WaysOut.{book-refused, book-accepted}
+use Rattle.verdict.proofs.check_plan.Statement.{statement}
+use Rattle.verdict.proofs.check_plan.Tie as tie
+
+read-book-requires : tie.Need-read-book-requires
+read-book-requires c κs = search needs
+
+enum-known-answer : tie.Need-enum-known-answer
+enum-known-answer c = search needs
+
+enum-known-answer-2 : tie.Need-enum-known-answer-2
+enum-known-answer-2 c = search needs
+
+returns : tie.Need-returns
+unfolding checkedOf
+returns c = book-refused _ _ _ (not-accepted (c .before .before .before .read-book .ensures) (c .before .answer2 .given .1))
+
+columns-requires : tie.Need-columns-requires
+columns-requires c κs = search needs
+
+check-book-requires : tie.Need-check-book-requires
+check-book-requires c κs =
+    let cols = c .before .before .before .before .before .before .before in
+    let told = cols .before .before .before .before in
+    accepted (told .before .before .read-book .ensures) (told .answer .given .1) (cols .columns .ensures) .0
+
+returns-2 : tie.Need-returns-2
+returns-2 c =
+    let cols = c .before .before .before .before .before .before .before .before in
+    let told = cols .before .before .before .before in
+    let held = accepted (told .before .before .read-book .ensures) (told .answer .given .1) (cols .columns .ensures) in
+    book-accepted _ _ _ (held .1) (c .check-book .ensures (held .0))
+
+pub check-plan-spec : {M : Type 1} → statement M
+check-plan-spec =
+    tie.close
+    (tie.spec
+    read-book-requires
+    enum-known-answer
+    enum-known-answer-2
+    returns
+    columns-requires
+    check-book-requires
+    returns-2)

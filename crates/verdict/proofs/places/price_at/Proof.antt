@@ -1,0 +1,18 @@
+-- `verdict::places::price_at` meets its contract: the price of span s stands in the four bytes from 4 s on. Assumes nothing.
+use borrow.Author.Needs.{needs}
+use Rattle.book.specs.Bytes.{priceIn}
+use Rattle.verdict.proofs.places.price_at.Statement.{statement}
+use Rattle.verdict.proofs.places.price_at.Tie as tie
+
+mul-four : tie.Need-mul-four
+mul-four c = search needs
+
+four-requires : tie.Need-four-requires
+four-requires c κs = search needs
+
+returns : tie.Need-returns
+unfolding priceIn
+returns c = c .four .ensures
+
+pub price-at-spec : {M : Type 1} → statement M
+price-at-spec = tie.close (tie.spec mul-four four-requires returns)

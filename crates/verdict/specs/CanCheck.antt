@@ -1,0 +1,29 @@
+-- What the checker works on: an accepted line as columns of numbers, an entry for each request, and for each span a price that is not too high.
+-- Its two halves, the rules and the sums, promise things of any book that stands so. Assumes nothing.
+use mathlib.Core.Path.{_≡_}
+use mathlib.Core.List.{List}
+use Prim.Native.Nat.{ℕ, _*_, _≤_, _<_}
+use lib.ListN.{length}
+use Rattle.sums.specs.Filled.{Filled}
+use Rattle.book.specs.Book as Books
+use Rattle.book.specs.Book.{Book, limit, endA, endB, profit}
+use Rattle.book.specs.Bytes.{priceIn}
+use Rattle.lines.specs.Line.{Line}
+
+-- an accepted line, its spans and requests counted, its limits and ends in columns
+pub record Drawn (book : Book) (spans : ℕ) (limits : List ℕ) (count : ℕ) (a b : List ℕ) : Type 0 where
+  pub on : Line book
+  pub spans-is : spans ≡ Books.spans book
+  pub counted : count ≡ Books.count book
+  pub limit-is : Filled (limit book) spans limits
+  pub a-is : Filled (endA book) count a
+  pub b-is : Filled (endB book) count b
+
+-- with its profits, entries enough, and prices enough, none above 1,000,000
+pub record CanCheck (spans : ℕ) (limits : List ℕ) (count : ℕ) (a b profits entries prices : List ℕ) : Type 0 where
+  pub book : Book
+  pub drawn : Drawn book spans limits count a b
+  pub profit-is : Filled (profit book) count profits
+  pub entries-enough : 2 * count ≤ length entries
+  pub prices-enough : 4 * spans ≤ length prices
+  pub price-upto : (s : ℕ) → s < spans → priceIn prices s ≤ 1000000

@@ -1,0 +1,11 @@
+pub mod CanCheck
+pub mod Entry
+pub mod Spans
+pub mod SpanBySpan
+pub mod Lawful
+pub mod Totals
+pub mod Balance
+pub mod Checked
+pub mod WaysOut
+pub mod Order
+pub mod Demand3

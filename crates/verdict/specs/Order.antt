@@ -1,0 +1,94 @@
+-- An accepted book on the checker's table: what its numbers say is what the ways out ask. A book that is no ring is a line, and its spans are its
+-- nodes less one; where the lists are long enough and no price is too high, everything stands that yes or no is said of. Assumes nothing.
+use mathlib.Core.Path.{_≡_, sym, ap, _∙_}
+use mathlib.Core.Bool.{Bool, true, false, _||_}
+use mathlib.Core.List.{List}
+use mathlib.Core.Logic.{⊎-elim}
+use Prim.Native.Nat.{ℕ, _/_, _-_, _≤_, _<_}
+use native.Mathlib.Omega.{arith}
+use borrow.Author.Tests.{ltb-false}
+use lib.ListN.{length}
+use lib.Dec.{ltb}
+use Rattle.sums.specs.Each.{first}
+use Rattle.sums.specs.Tests.{neither}
+use Rattle.book.specs.Bytes.{entryPlaces, pricePlaces, entryIn, priceIn}
+use Rattle.book.specs.Book.{spans}
+use Rattle.book.specs.Reading.{done, refused}
+use Rattle.rules.specs.Prices.{verdict}
+use Rattle.rules.specs.Operations.{tooShort, tooDear, checking}
+use Rattle.lines.specs.Line.{Line}
+use Rattle.lines.specs.Ways.{line-spans}
+use Rattle.reader.specs.declared.Network.{Network}
+use Rattle.columns.specs.Seam.{HeldBook}
+use Rattle.verdict.specs.CanCheck.{CanCheck}
+use Rattle.verdict.specs.WaysOut as W
+
+module _
+    {network : Network} {held : ℕ} {limits a b profits : List ℕ} (h : HeldBook network held limits a b profits) (entries prices : List ℕ)
+  where
+    pub ring-refused : network .shape ≡ 2 → refused 14 0 ≡ checking (h .book) entries prices
+    ring-refused e = W.ring-refused (h .book) entries prices (h .shape-is ∙ e)
+
+    module _ (straight : network .shape ≡ 2 → ⊥) where
+      line : Line (h .book)
+      line = record {
+        line = ⊎-elim (λ e. e) (λ e. absurd (straight (sym (h .shape-is) ∙ e))) (h .sound .shaped);
+        sound = h .sound;
+      }
+
+      spans-are : spans (h .book) ≡ network .nodes - 1
+      spans-are = rw (← h .nodes-is) (line-spans line)
+
+      -- the lists, measured in whole places
+      module _ (lacks : Bool) (measured : lacks ≡ (ltb (entryPlaces entries) held || ltb (pricePlaces prices) (network .nodes - 1))) where
+        short : tooShort (h .book) entries prices ≡ lacks
+        short = rw (W.measured line entries prices, ← h .holds .counted, spans-are) (sym measured)
+
+        pub short-refused : lacks ≡ true → refused 12 0 ≡ checking (h .book) entries prices
+        short-refused e = W.short-refused line entries prices (short ∙ e)
+
+        module _ (long : lacks ≡ false) where
+          entries-reach : held ≤ length entries / 2
+          unfolding entryPlaces
+          entries-reach = ltb-false _ _ (neither _ (ltb (pricePlaces prices) (network .nodes - 1)) (sym measured ∙ long) .0)
+
+          pub prices-reach : network .nodes - 1 ≤ length prices / 4
+          unfolding pricePlaces
+          prices-reach = ltb-false _ _ (neither (ltb (entryPlaces entries) held) _ (sym measured ∙ long) .1)
+
+          -- what the search for too high a price found
+          module _ (dear : ℕ) (found : dear ≡ first (network .nodes - 1) (λ s. ltb 1000000 (priceIn prices s))) where
+            dear-is : tooDear (h .book) (priceIn prices) ≡ dear
+            unfolding tooDear
+            dear-is = rw spans-are (sym found)
+
+            pub dear-refused : dear < network .nodes - 1 → refused 13 dear ≡ checking (h .book) entries prices
+            dear-refused l = ap (refused 13) (sym dear-is) ∙ W.dear-refused line entries prices (short ∙ long) (omega (arith, dear-is, spans-are))
+
+            module _ (none : network .nodes - 1 ≤ dear) where
+              no-dear : spans (h .book) ≤ tooDear (h .book) (priceIn prices)
+              no-dear = omega (arith, dear-is, spans-are)
+
+              pub can-check : CanCheck (network .nodes - 1) limits held a b profits entries prices
+              can-check = record {
+                book = h .book;
+                drawn = record {
+                  on = line;
+                  spans-is = sym spans-are;
+                  counted = h .holds .counted;
+                  limit-is = record { is = λ s l. h .holds .limit-is s (omega (arith, spans-are)) };
+                  a-is = record { is = h .holds .a-is };
+                  b-is = record { is = h .holds .b-is };
+                };
+                profit-is = record { is = h .holds .profit-is };
+                entries-enough = omega (arith, entries-reach);
+                prices-enough = omega (arith, prices-reach);
+                price-upto = λ s l. W.all-low (h .book) prices no-dear s (omega (arith, spans-are));
+              }
+
+              pub verdict-given :
+                  {answer : Bool}
+                  → ((w : CanCheck (network .nodes - 1) limits held a b profits entries prices) → network .channels ≡ w .book .channels → answer ≡ verdict (w .book) (entryIn entries) (priceIn prices))
+                  → done answer ≡ checking (h .book) entries prices
+              unfolding can-check
+              verdict-given said = ap done (said can-check (sym (h .channels-is))) ∙ W.verdict-given line entries prices (short ∙ long) no-dear

@@ -1,0 +1,113 @@
+// The checker of anyone's plan (document 01, "Prices and the checker"): yes exactly when the plan obeys the rules and its earnings equal the
+// ceiling of the prices. It writes nothing.
+ghost use mathlib.Core.Path.{_≡_};
+ghost use Rattle.book.specs.Bytes.{entryIn, priceIn};
+ghost use Rattle.rules.specs.Prices.{verdict};
+ghost use Rattle.rules.specs.Operations.{checking, checker};
+ghost use Rattle.columns.specs.Seam.{HeldBook};
+ghost use Rattle.verdict.specs.CanCheck.{CanCheck};
+ghost use Rattle.verdict.specs.Checked.{checkedOf};
+
+mod ends;
+mod fair;
+mod places;
+mod totals;
+
+// What checking a plan comes to: yes, no, or a refusal with its number and place.
+pub enum Checked {
+    Yes,
+    No,
+    Refused(reader::Refusal),
+}
+
+// Whether the plan obeys the rules and its earnings equal the ceiling of the prices.
+fn weigh(
+    spans: usize,
+    channels: usize,
+    limits: &[usize; 64],
+    count: usize,
+    a: &[usize; 256],
+    b: &[usize; 256],
+    profits: &[usize; 256],
+    entries: &[u8],
+    prices: &[u8],
+) -> bool
+    requires { ⌜ CanCheck spans (now limits) count (now a) (now b) (now profits) (now entries) (now prices) ⌝ }
+    ensures { λ r. ⌜ ((w : CanCheck spans (now (limits .entry)) count (now (a .entry)) (now (b .entry)) (now (profits .entry)) (now (entries .entry)) (now (prices .entry))) → channels ≡ w .book .channels → r ≡ verdict (w .book) (entryIn (now (entries .entry))) (priceIn (now (prices .entry)))) ⌝ }
+{
+    if !fair::lawful(spans, channels, limits, count, a, b, entries) {
+        return false;
+    }
+    totals::balanced(spans, limits, count, a, b, profits, entries, prices)
+}
+
+// Checks a plan for an accepted book: 14 for a ring, then 12, then 13, and only then yes or no.
+fn check_book(
+    network: reader::Network,
+    limits: &[usize; 64],
+    count: usize,
+    a: &[usize; 256],
+    b: &[usize; 256],
+    profits: &[usize; 256],
+    entries: &[u8],
+    prices: &[u8],
+) -> Checked
+    requires { ⌜ HeldBook network count (now limits) (now a) (now b) (now profits) ⌝ }
+    ensures { λ r. ⌜ ((h : HeldBook network count (now (limits .entry)) (now (a .entry)) (now (b .entry)) (now (profits .entry))) → checkedOf r ≡ checking (h .book) (now (entries .entry)) (now (prices .entry))) ⌝ }
+{
+    if network.shape == 2 {
+        return Checked::Refused(reader::Refusal {
+            number: 14,
+            place: 0,
+        });
+    }
+    let spans = network.nodes - 1;
+    if places::too_short(count, spans, entries, prices) {
+        return Checked::Refused(reader::Refusal {
+            number: 12,
+            place: 0,
+        });
+    }
+    let dear = places::dear(prices, spans);
+    if dear < spans {
+        return Checked::Refused(reader::Refusal {
+            number: 13,
+            place: dear,
+        });
+    }
+    let channels = network.channels;
+    if weigh(
+        spans,
+        channels,
+        limits,
+        count,
+        a,
+        b,
+        profits,
+        entries,
+        prices,
+    ) {
+        return Checked::Yes;
+    }
+    Checked::No
+}
+
+// Checks a plan: the entries, two bytes each, against the prices, four bytes each, for the book in the file. The book's own refusals come first.
+pub fn check_plan(file: &[u8], entries: &[u8], prices: &[u8]) -> Checked
+    ensures { λ r. ⌜ checkedOf r ≡ checker (now (file .entry)) (now (entries .entry)) (now (prices .entry)) ⌝ }
+{
+    let taken = reader::read_book(file);
+    let answer = taken.answer;
+    let network = match answer {
+        reader::Answer::Accepted(network) => network,
+        reader::Answer::Refused(refusal) => return Checked::Refused(refusal),
+    };
+    let limits = taken.limits;
+    let count = taken.count;
+    let requests = taken.requests;
+    let columns = columns::columns(requests, count);
+    let a = columns.a;
+    let b = columns.b;
+    let profits = columns.profit;
+    check_book(network, &limits, count, &a, &b, &profits, entries, prices)
+}

@@ -1,0 +1,49 @@
+// The places of the lent lists (document 01, "What the desk plans"): an entry is two bytes and a price four, high byte first.
+ghost use mathlib.Core.Path.{_≡_};
+ghost use mathlib.Core.Bool.{_||_};
+ghost use Prim.Native.Nat.{_+_, _*_, _≤_};
+ghost use lib.ListN.{length};
+ghost use lib.Dec.{ltb};
+ghost use Rattle.sums.specs.Each.{first};
+ghost use Rattle.book.specs.Bytes.{entryPlaces, pricePlaces, entryIn, priceIn};
+
+// Entry i.
+pub fn entry_at(entries: &[u8], i: usize) -> usize
+    requires { ⌜ 2 * i + 2 ≤ length (now entries) ⌝ }
+    ensures { λ r. ⌜ r ≡ entryIn (now (entries .entry)) i ⌝ }
+{
+    reader::bytes::two(entries, 2 * i)
+}
+
+// The price of span s.
+pub fn price_at(prices: &[u8], s: usize) -> usize
+    requires { ⌜ 4 * s + 4 ≤ length (now prices) ⌝ }
+    ensures { λ r. ⌜ r ≡ priceIn (now (prices .entry)) s ⌝ }
+{
+    reader::bytes::four(prices, 4 * s)
+}
+
+// Whether the entry list has too few places for the requests, or the price list for the spans (refusal 12).
+pub fn too_short(count: usize, spans: usize, entries: &[u8], prices: &[u8]) -> bool
+    ensures { λ r. ⌜ r ≡ (ltb (entryPlaces (now (entries .entry))) count || ltb (pricePlaces (now (prices .entry))) spans) ⌝ }
+{
+    if entries.len() / 2 < count {
+        return true;
+    }
+    prices.len() / 4 < spans
+}
+
+// The lowest span whose price is above 1,000,000, or the number of spans where there is none (refusal 13).
+pub fn dear(prices: &[u8], spans: usize) -> usize
+    requires { ⌜ 4 * spans ≤ length (now prices) ⌝ }
+    ensures { λ r. ⌜ r ≡ first spans (λ s. ltb 1000000 (priceIn (now (prices .entry)) s)) ⌝ }
+{
+    let mut s = 0;
+    while s < spans {
+        if 1000000 < price_at(prices, s) {
+            return s;
+        }
+        s += 1;
+    }
+    s
+}
