@@ -14,6 +14,8 @@ use Rattle.book.specs.Reading.{done, refused, andThen}
 use Rattle.rules.specs.Plans.{earnings, numberKept}
 use Rattle.rules.specs.Cuts.{cut, cutShown}
 use Rattle.rules.specs.Operations.{placesShort, plannableIn}
+use Rattle.lines.specs.Ways.{line-spans}
+use Rattle.rings.specs.CutLine.{ring-spans}
 use Rattle.rings.specs.Never15.{line-plan, ring-plan}
 use Rattle.reader.specs.declared.Network.{Network}
 use Rattle.reader.specs.declared.Refusal.{Refusal}
@@ -35,21 +37,13 @@ pub record HeldPlanned (book : Book) (entryPlaces pricePlaces : ℕ) (r : BookPl
   pub short : placesShort book entryPlaces pricePlaces ≡ true → Refusing (record { number = 12; place = 0 }) r
   pub long : placesShort book entryPlaces pricePlaces ≡ false → PlanOf book r
 
-line-shown : (book : Book) → book .shape ≡ 1 → cutShown book ≡ 65535
+pub line-shown : (book : Book) → book .shape ≡ 1 → cutShown book ≡ 65535
 unfolding cutShown
 line-shown book e = rw e
 
-ring-shown : (book : Book) → book .shape ≡ 2 → cutShown book ≡ cut book
+pub ring-shown : (book : Book) → book .shape ≡ 2 → cutShown book ≡ cut book
 unfolding cutShown
 ring-shown book e = rw e
-
-line-spans : (book : Book) → book .shape ≡ 1 → spans book ≡ book .nodes - 1
-unfolding spans spansOf
-line-spans book e = rw e
-
-ring-spans : (book : Book) → book .shape ≡ 2 → spans book ≡ book .nodes
-unfolding spans spansOf
-ring-spans book e = rw e
 
 -- the line planner's answer is the plan of the line
 pub on-line :
@@ -75,7 +69,7 @@ on-line {entries} w made says =
       priced = λ e. record { small = made .prices-upto; accepted = made .accepted };
       sound = w .line .sound;
       shape-is = sym (w .line .line);
-      spans-is = omega (arith, line-spans book (w .line .line), w .nodes-is);
+      spans-is = omega (arith, line-spans (w .line), w .nodes-is);
       count-is = w .holds .counted;
       a-is = λ i h. w .holds .a-is i (omega (arith, w .holds .counted));
       b-is = λ i h. w .holds .b-is i (omega (arith, w .holds .counted));
@@ -105,7 +99,7 @@ on-ring {shown} {entries} w made says =
       priced = λ e. absurd (omega (arith, w .ring .ring));
       sound = w .ring .sound;
       shape-is = sym (w .ring .ring);
-      spans-is = omega (arith, ring-spans book (w .ring .ring), w .nodes-is);
+      spans-is = omega (arith, ring-spans (w .ring), w .nodes-is);
       count-is = w .holds .counted;
       a-is = λ i h. w .holds .a-is i (omega (arith, w .holds .counted));
       b-is = λ i h. w .holds .b-is i (omega (arith, w .holds .counted));

@@ -1,0 +1,39 @@
+-- Demand 3, last sentence: "With the prices our planner hands out, every best plan gets a yes and no other plan does." The planner promises prices at which
+-- the checker accepts its own plan; where one plan gets a yes, the best plans get one and no others. Assumes nothing.
+use mathlib.Core.Bool.{true, false}
+use mathlib.Core.List.{List}
+use mathlib.Core.Path.{_≡_}
+use Prim.Native.Nat.{ℕ}
+use Rattle.book.specs.Book.{Book}
+use Rattle.book.specs.Columns.{at}
+use Rattle.book.specs.Reading.{done}
+use Rattle.rules.specs.Plans.{Plan, Best}
+use Rattle.rules.specs.Prices.{Prices, verdict}
+use Rattle.rules.specs.Operations.{plannableIn, Priced}
+use Rattle.lines.specs.Line.{Line}
+use Rattle.lines.specs.Ceiling.{yes-for-best, no-for-others}
+use Rattle.planner.specs.declared.BookPlan.{BookPlan}
+use Rattle.planner.specs.Promise.{PlanOf, BookPlanned}
+
+module _ {book : Book} (on : Line book) {plan : Plan} {prices : Prices} (ours : Priced book plan prices) where
+  pub best-gets-yes : (other : Plan) → Best book other → verdict book other prices ≡ true
+  best-gets-yes other b = yes-for-best on plan other prices (ours .accepted) b
+
+  pub others-get-no : (other : Plan) → (Best book other → ⊥) → verdict book other prices ≡ false
+  others-get-no other n = no-for-others on other prices n
+
+-- the same of what `planner::plan_book` answers for a line's book with lists long enough
+module _ {file : List ℕ} {entryPlaces pricePlaces : ℕ} {r : BookPlan} (planned : BookPlanned file entryPlaces pricePlaces r)
+    {book : Book} (long : plannableIn file entryPlaces pricePlaces ≡ done book) (line : book .shape ≡ 1)
+  where
+    ours : PlanOf book r
+    ours = planned .plan book long
+
+    on : Line book
+    on = record { line = line; sound = ours .sound }
+
+    pub planner-best-gets-yes : (other : Plan) → Best book other → verdict book other (at (r .prices)) ≡ true
+    planner-best-gets-yes = best-gets-yes on (ours .priced line)
+
+    pub planner-others-get-no : (other : Plan) → (Best book other → ⊥) → verdict book other (at (r .prices)) ≡ false
+    planner-others-get-no = others-get-no on (ours .priced line)

@@ -1,0 +1,72 @@
+-- Two outcomes allowed by the same statement are equal (01, "How far the statements reach"): earnings and cut of two plans that the planner might hand back,
+-- and, where they keep the same requests, their entries and numbers kept; and two accepted price lists of one book say yes to the same plans. Assumes nothing.
+use mathlib.Core.Bool.{Bool, true, false}
+use mathlib.Core.Logic.{⊎-elim}
+use mathlib.Core.Path.{_≡_, sym, ap, subst, _∙_}
+use Prim.Native.Nat.{ℕ, _≤_, _<_}
+use native.Mathlib.Omega.{arith}
+use Rattle.sums.specs.Each.{decided}
+use Rattle.sums.specs.Sums.{Σ-ext, bit}
+use Rattle.book.specs.Book.{Book, count}
+use Rattle.book.specs.Sound.{Sound}
+use Rattle.rules.specs.Plans.{Plan, kept, numberKept, earnings, Best}
+use Rattle.rules.specs.Prices.{Prices, verdict}
+use Rattle.rules.specs.Cuts.{cutLine, cut, planLine}
+use Rattle.rules.specs.Operations.{Planned, Priced}
+use Rattle.lines.specs.Line.{Line}
+use Rattle.lines.specs.Laid.{obeys-laid}
+use Rattle.lines.specs.Found.{rule-once}
+use Rattle.lines.specs.Ceiling.{yes-best, yes-for-best}
+use Rattle.rings.specs.Ring.{Ring}
+use Rattle.rings.specs.CutLine.{cut-line, cut-count}
+use Rattle.rings.specs.Choice.{cut-in}
+use Rattle.rings.specs.Demand2.{earnings-once}
+use Rattle.rings.specs.Never15.{line-plan, ring-plan}
+
+module _ {book : Book} (sound : Sound book) {plan other : Plan} {earned number cut₁ earned′ number′ cut₂ : ℕ}
+    (p : Planned book plan earned number cut₁) (q : Planned book other earned′ number′ cut₂)
+  where
+    -- the cut
+    pub cut-equal : cut₁ ≡ cut₂
+    cut-equal = p .cut-is ∙ sym (q .cut-is)
+
+    -- the earnings
+    pub earned-equal : earned ≡ earned′
+    earned-equal = p .earned-is ∙ ⊎-elim on-line on-ring (sound .shaped) ∙ sym (q .earned-is)
+      where
+        on-line : book .shape ≡ 1 → earnings book plan ≡ earnings book other
+        on-line e =
+            let b : Best book plan = subst (λ k. Best k plan) (line-plan book e) (p .best-there) in
+            let c : Best book other = subst (λ k. Best k other) (line-plan book e) (q .best-there) in
+            omega (arith, b .most other (c .fair), c .most plan (b .fair))
+
+        on-ring : book .shape ≡ 2 → earnings book plan ≡ earnings book other
+        on-ring e =
+            earnings-once (record { ring = e; sound = sound }) plan other (subst (λ k. Best k plan) (ring-plan book e) (p .best-there)) (subst (λ k. Best k other) (ring-plan book e) (q .best-there))
+
+    -- with equal kept sets also the entries and the numbers kept
+    module _ (same : (i : ℕ) → i < count book → kept plan i ≡ kept other i) where
+      pub number-equal : number ≡ number′
+      unfolding numberKept
+      number-equal = p .number-is ∙ Σ-ext (count book) _ _ (λ i l. ap bit (same i l)) ∙ sym (q .number-is)
+
+      pub entries-equal : (i : ℕ) → i < count book → plan i ≡ other i
+      entries-equal = ⊎-elim on-line on-ring (sound .shaped)
+        where
+          on : (line : Book) → Line line → count line ≡ count book → planLine book ≡ line → (i : ℕ) → i < count book → plan i ≡ other i
+          on line l c e i h =
+              let b = subst (λ k. Best k plan) e (p .best-there) in
+              let d = subst (λ k. Best k other) e (q .best-there) in
+              rule-once l (obeys-laid l (b .fair)) (obeys-laid l (d .fair)) (subst (λ k. Rattle.rules.specs.Channels.byRule k plan ≡ true) e (p .channels)) (subst (λ k. Rattle.rules.specs.Channels.byRule k other ≡ true) e (q .channels)) (λ j m. same j (omega arith)) i (omega arith)
+
+          on-line : book .shape ≡ 1 → (i : ℕ) → i < count book → plan i ≡ other i
+          on-line e = on book (record { line = e; sound = sound }) mathlib.Core.Path.refl (line-plan book e)
+
+          on-ring : book .shape ≡ 2 → (i : ℕ) → i < count book → plan i ≡ other i
+          on-ring e =
+              let r : Ring book = record { ring = e; sound = sound } in
+              on (cutLine book (cut book)) (cut-line r (cut book) (cut-in r)) (cut-count r (cut book)) (ring-plan book e)
+
+-- two accepted price lists of one line say yes to the same plans
+pub prices-equal : {book : Book} → Line book → {plan plan′ : Plan} {prices prices′ : Prices} → Priced book plan prices → Priced book plan′ prices′ → (other : Plan) → verdict book other prices ≡ true → verdict book other prices′ ≡ true
+prices-equal on {plan′} {prices} {prices′} p q other e = yes-for-best on plan′ other prices′ (q .accepted) (yes-best on other prices e)

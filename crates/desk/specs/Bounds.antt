@@ -1,0 +1,153 @@
+-- Whatever goes back to the desk fits its bits. A refusal after record 0 is of a file of at most 5,136 bytes and 64 nodes, so its place is small; earnings
+-- are at most 256 profits of 1,000,000. Assumes nothing.
+use mathlib.Core.Bool.{Bool, true, false, cond}
+use mathlib.Core.List.{List}
+use mathlib.Core.Logic.{inl, inr, ⊎-elim}
+use mathlib.Core.Path.{_≡_, refl}
+use Prim.Native.Nat.{ℕ, _-_, _≤_}
+use native.Mathlib.Omega.{arith}
+use borrow.Author.Tests.{ltb-true}
+use lib.Dec.{eqb, ltb}
+use lib.ListN.{length}
+use Rattle.sums.specs.Each.{decided, less-or-not}
+use Rattle.sums.specs.Sums.{when, bit, when-le, bit-le, Σ-most}
+use Rattle.book.specs.Book.{Book, isRing, spans, spansOf, count, profit}
+use Rattle.book.specs.Bytes.{entryIn, priceIn}
+use Rattle.book.specs.Sound.{Sound, sound}
+use Rattle.book.specs.Refusals.{records, spansIn, nodesIn, shapeIn}
+use Rattle.book.specs.Reading.{Outcome, done, refused, andThen, due, reading}
+use Rattle.book.specs.Means.{less, same, not-so, and, or}
+use Rattle.book.specs.InWords.{row-1, row-3}
+use Rattle.book.specs.Laws.{Given, refused-given}
+use Rattle.rules.specs.Plans.{Plan, kept, earnings, numberKept}
+use Rattle.rules.specs.Cuts.{cut, cutShown}
+use Rattle.rules.specs.Prices.{verdict}
+use Rattle.rules.specs.Operations.{placesShort, tooShort, tooDear, checking, checker, plannableIn, Planned}
+use Rattle.rings.specs.Ring.{Ring}
+use Rattle.rings.specs.CutLine.{ring-spans}
+use Rattle.rings.specs.Choice.{cut-in}
+use Rattle.planner.specs.Held.{line-shown, ring-shown}
+
+-- a number and a place that a refusal carries
+pub record SmallRefusal (number place : ℕ) : Type 0 where
+  pub number-upto : number ≤ 15
+  pub place-upto : place ≤ 320
+
+-- what a plan's answer carries
+pub record SmallPlan (earned number cut : ℕ) : Type 0 where
+  pub earned-upto : earned ≤ 256000000
+  pub number-upto : number ≤ 256
+  pub cut-upto : cut ≤ 65535
+
+pub spans-small : (shape nodes : ℕ) → spansOf shape nodes ≤ nodes
+unfolding spansOf
+spans-small shape nodes = by (eqb shape 2)
+  where
+    by : (t : Bool) → cond t nodes (nodes - 1) ≤ nodes
+    by true = omega arith
+    by false = omega arith
+
+given-small : {file : List ℕ} {number place : ℕ} → Given file number place → SmallRefusal number place
+unfolding due records spansIn
+given-small {file} {place} given = record { number-upto = omega (arith, given .in-table); place-upto = ⊎-elim (λ l. omega arith) late (less-or-not place 1) }
+  where
+    late : 1 ≤ place → place ≤ 320
+    late l =
+        let length-ok = not-so (row-1 file 0) .0 (given .before 0 1 (omega arith) (omega arith)) in
+        let nodes-ok = not-so (row-3 file 0) .0 (given .before 0 3 (omega arith) (omega arith)) in
+        let short : length file ≤ 5136 = ⊎-elim (λ h. absurd (length-ok (refl, inr (inr h)))) (λ h. h) (less-or-not 5136 (length file)) in
+        let few : nodesIn file ≤ 64 = ⊎-elim (λ h. absurd (nodes-ok (refl, inr (inr h)))) (λ h. h) (less-or-not 64 (nodesIn file)) in
+        omega (arith, given .looked-at, spans-small (shapeIn file) (nodesIn file))
+
+-- the book's refusals and 12
+pub refusal-small : (file : List ℕ) (entryPlaces pricePlaces number place : ℕ) → plannableIn file entryPlaces pricePlaces ≡ refused number place → SmallRefusal number place
+unfolding plannableIn andThen
+refusal-small file entryPlaces pricePlaces number place = by (reading file) refl
+  where
+    by :
+        (o : Outcome Book) → reading file ≡ o → andThen o (λ book. cond (placesShort book entryPlaces pricePlaces) (refused 12 0) (done book)) ≡ refused number place
+        → SmallRefusal number place
+    by (refused n p) is same =
+        let same-number : n ≡ number = cc in
+        let same-place : p ≡ place = cc in
+        rw (same-number, same-place) at (given-small (refused-given file n p is))
+    by (done book) is same = ⊎-elim (λ t. twelve (rw t at same)) (λ t. never (rw t at same)) (decided (placesShort book entryPlaces pricePlaces))
+      where
+        twelve : _≡_ {A = Outcome Book} (refused 12 0) (refused number place) → SmallRefusal number place
+        twelve e = let n : 12 ≡ number = cc in let p : 0 ≡ place = cc in record { number-upto = omega arith; place-upto = omega arith }
+
+        never : done book ≡ refused number place → SmallRefusal number place
+        never e = let z : _≡_ {A = ℕ} 0 1 = cc in absurd (omega arith)
+
+-- a plan's numbers
+pub plan-small : {book : Book} {plan : Plan} {earned number shown : ℕ} → Sound book → Planned book plan earned number shown → SmallPlan earned number shown
+unfolding earnings numberKept
+plan-small {book} {plan} sound made =
+    record {
+      earned-upto = omega (arith, made .earned-is, sound .count-upto, Σ-most (count book) (λ i. when (kept plan i) (profit book i)) 1000000 (λ i h. omega (arith, when-le (kept plan i) (profit book i), sound .profit-upto i h)));
+      number-upto = omega (arith, made .number-is, sound .count-upto, Σ-most (count book) (λ i. bit (kept plan i)) 1 (λ i h. bit-le (kept plan i)));
+      cut-upto = omega (arith, made .cut-is, shown-small);
+    }
+  where
+    shown-small : cutShown book ≤ 65535
+    shown-small =
+        ⊎-elim (λ e. omega (arith, line-shown book e))
+        (λ e. let on : Ring book = record { ring = e; sound = sound } in omega (arith, ring-shown book e, cut-in on, ring-spans on, sound .nodes-upto))
+        (sound .shaped)
+
+-- where a book can be planned, the lists are long enough
+pub record LongEnough (book : Book) (entryPlaces pricePlaces : ℕ) : Type 0 where
+  pub entries : count book ≤ entryPlaces
+  pub prices : book .shape ≡ 1 → spans book ≤ pricePlaces
+
+not-short : (book : Book) (entryPlaces pricePlaces : ℕ) → placesShort book entryPlaces pricePlaces ≡ false → LongEnough book entryPlaces pricePlaces
+unfolding placesShort
+not-short book entryPlaces pricePlaces e =
+    let ok = not-so (or less (and same less)) .0 e in
+    record {
+      entries = ⊎-elim (λ h. absurd (ok (inl h))) (λ h. h) (less-or-not entryPlaces (count book));
+      prices = λ l. ⊎-elim (λ h. absurd (ok (inr (l, h)))) (λ h. h) (less-or-not pricePlaces (spans book));
+    }
+
+pub long-enough : (file : List ℕ) (entryPlaces pricePlaces : ℕ) (book : Book) → plannableIn file entryPlaces pricePlaces ≡ done book → LongEnough book entryPlaces pricePlaces
+unfolding plannableIn andThen
+long-enough file entryPlaces pricePlaces book = by (reading file) refl
+  where
+    by :
+        (o : Outcome Book) → reading file ≡ o → andThen o (λ made. cond (placesShort made entryPlaces pricePlaces) (refused 12 0) (done made)) ≡ done book
+        → LongEnough book entryPlaces pricePlaces
+    by (refused n p) is same = let z : _≡_ {A = ℕ} 0 1 = cc in absurd (omega arith)
+    by (done made) is same = ⊎-elim (λ t. never (rw t at same)) (λ t. long t (rw t at same)) (decided (placesShort made entryPlaces pricePlaces))
+      where
+        never : refused 12 0 ≡ done book → LongEnough book entryPlaces pricePlaces
+        never e = let z : _≡_ {A = ℕ} 0 1 = cc in absurd (omega arith)
+
+        long : placesShort made entryPlaces pricePlaces ≡ false → done made ≡ done book → LongEnough book entryPlaces pricePlaces
+        long t e = let same-book : made ≡ book = cc in rw same-book at (not-short made entryPlaces pricePlaces t)
+
+-- ---- the checker's: the book's, 14, 12 and 13
+
+step : {number place : ℕ} (ring short dear : Bool) (at : ℕ) (verdict : Bool) → (dear ≡ true → at ≤ 320) →
+    cond ring (refused 14 0) (cond short (refused 12 0) (cond dear (refused 13 at) (done verdict))) ≡ refused number place → SmallRefusal number place
+step {number} {place} true short dear at verdict h e = let n : 14 ≡ number = cc in let p : 0 ≡ place = cc in record { number-upto = omega arith; place-upto = omega arith }
+step {number} {place} false true dear at verdict h e = let n : 12 ≡ number = cc in let p : 0 ≡ place = cc in record { number-upto = omega arith; place-upto = omega arith }
+step {number} {place} false false true at verdict h e = let n : 13 ≡ number = cc in let p : at ≡ place = cc in record { number-upto = omega arith; place-upto = omega (arith, h refl) }
+step false false false at verdict h e = let n : _≡_ {A = ℕ} 0 1 = cc in absurd (omega arith)
+
+checking-small : (book : Book) → Sound book → (entries prices : List ℕ) (number place : ℕ) → checking book entries prices ≡ refused number place → SmallRefusal number place
+unfolding checking spans
+checking-small book sound entries prices number place e =
+    step (isRing book) (tooShort book entries prices) (ltb (tooDear book (priceIn prices)) (spans book)) (tooDear book (priceIn prices)) (verdict book (entryIn entries) (priceIn prices))
+    (λ d. omega (arith, ltb-true (tooDear book (priceIn prices)) (spans book) d, spans-small (book .shape) (book .nodes), sound .nodes-upto))
+    e
+
+pub checker-small : (file entries prices : List ℕ) (number place : ℕ) → checker file entries prices ≡ refused number place → SmallRefusal number place
+unfolding checker andThen
+checker-small file entries prices number place = by (reading file) refl
+  where
+    by : (o : Outcome Book) → reading file ≡ o → andThen o (λ book. checking book entries prices) ≡ refused number place → SmallRefusal number place
+    by (refused n p) is same =
+        let same-number : n ≡ number = cc in
+        let same-place : p ≡ place = cc in
+        rw (same-number, same-place) at (given-small (refused-given file n p is))
+    by (done book) is same = checking-small book (sound file book is) entries prices number place same

@@ -1,0 +1,124 @@
+-- From the planner's promise to the boundary's: what the planner answers fits the packing and the lists, and once it is packed and written the boundary's
+-- promise holds. One law for each way out: a refusal, a line, a ring. Assumes nothing.
+use mathlib.Core.List.{List}
+use mathlib.Core.Path.{_≡_, refl, _∙_}
+use Prim.Native.Nat.{ℕ, _/_}
+use native.Mathlib.Omega.{arith}
+use lib.ListN.{length}
+use Rattle.book.specs.Bytes.{entryPlaces, pricePlaces}
+use Rattle.book.specs.Book.{Book, spans}
+use Rattle.book.specs.Columns.{at}
+use Rattle.book.specs.Reading.{done, refused}
+use Rattle.rules.specs.Operations as O
+use Rattle.rules.specs.Operations.{plannable}
+use Rattle.print.specs.Fair.{fair-printable}
+use Rattle.reader.specs.declared.Refusal.{Refusal}
+use Rattle.planner.specs.declared.Answer.the-variants.{Planned, Refused}
+use Rattle.planner.specs.declared.BookPlan.{BookPlan}
+use Rattle.planner.specs.Promise.{PlanOf, BookPlanned}
+use Rattle.planner.specs.Cases.{is-refused, is-planned, plan-holds}
+use Rattle.desk.specs.Packing.{packedRefusal, packedPlan}
+use Rattle.desk.specs.Promise.{EntriesWritten, PricesWritten, Handed, PlanAnswer}
+use Rattle.desk.specs.Bounds.{SmallRefusal, SmallPlan, LongEnough, spans-small, refusal-small, plan-small, long-enough}
+use Rattle.desk.specs.Writing.{EntriesFit, PricesFit}
+
+answer-refused :
+    {file entries prices : List ℕ} {answer number place : ℕ} → plannable file entries prices ≡ refused number place → answer ≡ packedRefusal number place
+    → PlanAnswer file entries prices answer entries prices
+answer-refused {answer} {number} {place} is packed =
+    record {
+      refusal = λ n p e. let same-number : number ≡ n = cc in let same-place : place ≡ p = cc in (rw (same-number, same-place) at packed, refl, refl);
+      plan = λ book e. let z : _≡_ {A = ℕ} 0 1 = cc in absurd (omega arith);
+    }
+
+answer-planned :
+    {file entries prices entries′ prices′ : List ℕ} {answer : ℕ} {book : Book} → plannable file entries prices ≡ done book → Handed book answer entries prices entries′ prices′
+    → PlanAnswer file entries prices answer entries′ prices′
+answer-planned {book} is handed =
+    record {
+      refusal = λ n p e. let z : _≡_ {A = ℕ} 0 1 = cc in absurd (omega arith);
+      plan = λ other e. let same : book ≡ other = cc in rw same at handed;
+    }
+
+module _ {file : List ℕ} (entries prices : List ℕ) {r : BookPlan} (made : BookPlanned file (length entries / 2) (length prices / 4) r) where
+  pub refusal-fits : {refusal : Refusal} → r .answer ≡ Refused refusal → SmallRefusal (refusal .number) (refusal .place)
+  refusal-fits says = refusal-small file (length entries / 2) (length prices / 4) _ _ (is-refused made says)
+
+  pub handed-refusal : {refusal : Refusal} {answer : ℕ} → r .answer ≡ Refused refusal → answer ≡ packedRefusal (refusal .number) (refusal .place) → PlanAnswer file entries prices answer entries prices
+  unfolding plannable entryPlaces pricePlaces
+  handed-refusal says packed = answer-refused (is-refused made says) packed
+
+  module _ {earned number cut : ℕ} (says : r .answer ≡ Planned earned number cut) where
+    abbrev book : Book
+    book = is-planned made says .0
+
+    abbrev plan : PlanOf book r
+    plan = made .plan book (is-planned made says .1)
+
+    long : LongEnough book (length entries / 2) (length prices / 4)
+    long = long-enough file (length entries / 2) (length prices / 4) book (is-planned made says .1)
+
+    planned : O.Planned book (at (r .entries)) earned number cut
+    planned =
+        let p = plan in
+        let the-answer : Planned (p .earned) (p .number) (p .cut) ≡ Planned earned number cut = cc (p .says, says) in
+        let e : p .earned ≡ earned = cc in
+        let n : p .number ≡ number = cc in
+        let c : p .cut ≡ cut = cc in
+        rw (e, n, c) at (p .planned)
+
+    pub numbers-fit : SmallPlan earned number cut
+    numbers-fit = plan-small (plan .sound) planned
+
+    pub entries-fit : EntriesFit (r .count) (r .entries) entries
+    entries-fit =
+        let fair = fair-printable {entries = r .entries} (plan .sound) (plan-holds plan) (plan .planned .fair) in
+        record { many = fair .many; room = omega (arith, plan .count-is, long .entries); small = λ i h. omega (arith, fair .entry i h) }
+
+    pub prices-fit : r .shape ≡ 1 → PricesFit (r .spans) (r .prices) prices
+    unfolding spans
+    prices-fit e =
+        let on : book .shape ≡ 1 = omega (arith, plan .shape-is) in
+        record {
+          many = omega (arith, plan .spans-is, plan .sound .nodes-upto, spans-small (book .shape) (book .nodes));
+          room = omega (arith, plan .spans-is, long .prices on);
+          small = λ j h. omega (arith, plan .priced on .small j (omega (arith, plan .spans-is)));
+        }
+
+    -- both ways out of a plan, once the entries are written
+    module _ {answer : ℕ} {entries′ : List ℕ} (packed : answer ≡ packedPlan earned number cut) (written : EntriesWritten (r .count) (at (r .entries)) entries entries′) where
+      pub handed-line : {prices′ : List ℕ} → r .shape ≡ 1 → PricesWritten (r .spans) (at (r .prices)) prices prices′ → PlanAnswer file entries prices answer entries′ prices′
+      unfolding plannable entryPlaces pricePlaces
+      handed-line e costs =
+          answer-planned (is-planned made says .1)
+          (record {
+            plan = at (r .entries);
+            earned = earned;
+            number = number;
+            cut = cut;
+            says = packed;
+            planned = planned;
+            written = rw (plan .count-is) at written;
+            costs = at (r .prices);
+            priced = plan .priced;
+            line-prices = λ l. rw (plan .spans-is) at costs;
+            ring-prices = λ l. absurd (omega (arith, plan .shape-is));
+          })
+
+      pub handed-ring : (r .shape ≡ 1 → ⊥) → PlanAnswer file entries prices answer entries′ prices
+      unfolding plannable entryPlaces pricePlaces
+      handed-ring other =
+          answer-planned (is-planned made says .1)
+          (record {
+            plan = at (r .entries);
+            earned = earned;
+            number = number;
+            cut = cut;
+            says = packed;
+            planned = planned;
+            written = rw (plan .count-is) at written;
+            costs = at (r .prices);
+            priced = plan .priced;
+            line-prices = λ l. absurd (other (plan .shape-is ∙ l));
+            ring-prices = λ l. refl;
+          })

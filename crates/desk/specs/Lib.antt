@@ -1,0 +1,6 @@
+pub mod Packing
+pub mod Promise
+pub mod Bounds
+pub mod Writing
+pub mod Handing
+pub mod Checking
