@@ -28,5 +28,6 @@ printf '0\n4\n1000001\n' >"$work/prices"; expect 3 'refused 13 at 2' books/B "$w
 printf '0\n4\n' >"$work/prices"; expect 3 'refused 12 at 0' books/B "$work/plan" "$work/prices"
 expect 3 'refused 14 at 0' books/E /dev/null /dev/null
 printf '4\n' >"$work/prices"; printf '0 1 1\n1 1 2\n' >"$work/plan"; expect 1 'no: it earns 13, and the ceiling of these prices is 14' books/A "$work/plan" "$work/prices"
+printf '0\n' >"$work/prices"; : >"$work/plan"; expect 1 'no: it earns 0, and the ceiling of these prices is 18' books/A "$work/plan" "$work/prices"
 [ "$failed" -eq 0 ] && echo 'check: all as it should be'
 exit "$failed"

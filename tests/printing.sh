@@ -1,6 +1,6 @@
 #!/usr/bin/env bash
-# Runs the printing program: books A to F against stored outputs, the edge cases of 01 ("Books and figures", last entry), and generated books, half of them
-# damaged, judged by an independent program with its own reading of 01 (tests/compare). BOOKS says how many (default 4000), SEED where they start.
+# Runs the printing program: the books of books/ against stored outputs, the edge cases of 01 ("Books and figures", last entry), and generated books, half of them
+# damaged, judged by an independent program with its own reading of 01 (tests/compare). BOOKS says how many (default 20000), SEED where they start.
 set -u
 cd "$(dirname "$0")/.." || exit 2
 light=$PWD/target/bin/light
@@ -9,7 +9,7 @@ failed=0
 work=$(mktemp -d) || exit 2
 trap 'rm -rf "$work"' EXIT
 
-for b in A B C D E F; do
+for b in A B C D E F per-span limit-above-k span-left-out ring-cut-2; do
   "$light" <"books/$b" | cmp -s - "tests/expected/$b" || { echo "printing: book $b is not printed as stored"; failed=1; }
 done
 
@@ -39,6 +39,6 @@ check() {
 none 0 | check 'an empty file is 1' 'refused 1 at 0'
 net 1 2 4 | check 'a network record alone is 5 at 1' 'refused 5 at 1'
 
-OUT="$work" sh tests/compare/run.sh standalone drive "$light" --books "${BOOKS:-4000}" ${SEED:+--seed "$SEED"} || failed=1
+OUT="$work" sh tests/compare/run.sh standalone drive "$light" --books "${BOOKS:-20000}" ${SEED:+--seed "$SEED"} || failed=1
 [ "$failed" -eq 0 ] && echo 'printing: all as it should be'
 exit "$failed"
