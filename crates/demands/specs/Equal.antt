@@ -2,7 +2,7 @@
 -- and, where they keep the same requests, their entries and numbers kept; and two accepted price lists of one book say yes to the same plans. Assumes nothing.
 use mathlib.Core.Bool.{Bool, true, false}
 use mathlib.Core.Logic.{⊎-elim}
-use mathlib.Core.Path.{_≡_, sym, ap, subst, _∙_}
+use mathlib.Core.Path.{_≡_, refl, sym, ap, subst, _∙_}
 use Prim.Native.Nat.{ℕ, _≤_, _<_}
 use native.Mathlib.Omega.{arith}
 use Rattle.sums.specs.Each.{decided}
@@ -11,6 +11,7 @@ use Rattle.book.specs.Book.{Book, count}
 use Rattle.book.specs.Sound.{Sound}
 use Rattle.rules.specs.Plans.{Plan, kept, numberKept, earnings, Best}
 use Rattle.rules.specs.Prices.{Prices, verdict}
+use Rattle.rules.specs.Channels.{byRule}
 use Rattle.rules.specs.Cuts.{cutLine, cut, planLine}
 use Rattle.rules.specs.Operations.{Planned, Priced}
 use Rattle.lines.specs.Line.{Line}
@@ -57,10 +58,10 @@ module _ {book : Book} (sound : Sound book) {plan other : Plan} {earned number c
           on line l c e i h =
               let b = subst (λ k. Best k plan) e (p .best-there) in
               let d = subst (λ k. Best k other) e (q .best-there) in
-              rule-once l (obeys-laid l (b .fair)) (obeys-laid l (d .fair)) (subst (λ k. Rattle.rules.specs.Channels.byRule k plan ≡ true) e (p .channels)) (subst (λ k. Rattle.rules.specs.Channels.byRule k other ≡ true) e (q .channels)) (λ j m. same j (omega arith)) i (omega arith)
+              rule-once l (obeys-laid l (b .fair)) (obeys-laid l (d .fair)) (subst (λ k. byRule k plan ≡ true) e (p .channels)) (subst (λ k. byRule k other ≡ true) e (q .channels)) (λ j m. same j (omega arith)) i (omega arith)
 
           on-line : book .shape ≡ 1 → (i : ℕ) → i < count book → plan i ≡ other i
-          on-line e = on book (record { line = e; sound = sound }) mathlib.Core.Path.refl (line-plan book e)
+          on-line e = on book (record { line = e; sound = sound }) refl (line-plan book e)
 
           on-ring : book .shape ≡ 2 → (i : ℕ) → i < count book → plan i ≡ other i
           on-ring e =

@@ -1,2 +1,4 @@
 pub mod Demand3
 pub mod Equal
+pub mod EqualRefusals
+pub mod EqualAtDesk

@@ -8,7 +8,7 @@ use Prim.Native.Nat.{ℕ, _≤_, _<_}
 use native.Mathlib.Omega.{arith}
 use borrow.Author.Tests.{le-ltb}
 use lib.Dec.{ltb}
-use lib.ListN.{length, take, length-take}
+use lib.ListN.{length, take, drop, length-take}
 use Rattle.sums.specs.Table.{table, table-at}
 use Rattle.book.specs.Book as Books
 use Rattle.book.specs.Book.{Book, isLine, spans, spansOf, limit, profit}
@@ -36,9 +36,11 @@ pub record PlanPage (book : Book) (out : List ℕ) (r : ℕ) : Type 0 where
   pub planned : O.Planned book plan earned number cut
   pub text : take r out ≡ printedPlan book plan earned number cut
 
-pub record Paged (file out : List ℕ) (r : ℕ) : Type 0 where
+-- the page is the first r bytes of the buffer, and every later byte is what it was
+pub record Paged (file before out : List ℕ) (r : ℕ) : Type 0 where
   pub fits : r ≤ 4096
   pub inside : r ≤ length out
+  pub later : drop r out ≡ drop r before
   pub refusal : (n p : ℕ) → reading file ≡ refused n p → take r out ≡ printedRefusal n p
   pub plan : (book : Book) → reading file ≡ done book → PlanPage book out r
 
@@ -73,11 +75,12 @@ module _ {file : List ℕ} {r : BookPlan} (b : BookPlanned file 256 64 r) where
   made : (book : Book) → reading file ≡ done book → PlanOf book r
   made book e = b .plan book (plannable-is file ∙ e)
 
-  pub page-refused : {refusal : Refusal} {before after : List ℕ} {k : ℕ} → r .answer ≡ Refused refusal → PrintsRefusal (refusal .number) (refusal .place) before after k → Paged file after k
+  pub page-refused : {refusal : Refusal} {before after : List ℕ} {k : ℕ} → r .answer ≡ Refused refusal → PrintsRefusal (refusal .number) (refusal .place) before after k → Paged file before after k
   page-refused {refusal} e prints =
       record {
         fits = prints .fits;
         inside = put-inside (prints .text);
+        later = prints .text .beyond;
         refusal = λ n p h. let q : refusal ≡ record { number = n; place = p } = same (told n p h) in put-front (prints .text) ∙ ap (λ x. printedRefusal (x .number) (x .place)) q;
         plan = λ book h. absurd (never (made book h .says));
       }
@@ -111,12 +114,26 @@ module _ {file : List ℕ} {r : BookPlan} (b : BookPlanned file 256 64 r) where
         go (done book) h = let p = made book h in fair-printable (p .sound) (held p) (p .planned .fair)
         go (refused n p) h = absurd (not-told n p h)
 
-    pub page-planned : {before after : List ℕ} {k : ℕ} → PrintsPlan (r .shape) (r .count) earned number cut (r .a) (r .b) (r .entries) before after k → Paged file after k
-    page-planned {after} {k} prints = record { fits = prints .fits; inside = go (reading file) refl; refusal = λ n p h. absurd (not-told n p h); plan = λ book h. shown book (made book h) }
+    pub page-planned : {before after : List ℕ} {k : ℕ} → PrintsPlan (r .shape) (r .count) earned number cut (r .a) (r .b) (r .entries) before after k → Paged file before after k
+    page-planned {before} {after} {k} prints =
+        record {
+          fits = prints .fits;
+          inside = go (λ book p. put-inside (text book p));
+          later = go (λ book p. text book p .beyond);
+          refusal = λ n p h. absurd (not-told n p h);
+          plan = λ book h. shown book (made book h);
+        }
       where
-        go : (o : Outcome Book) → reading file ≡ o → k ≤ length after
-        go (done book) h = let p = made book h in put-inside (prints .text book (book .limits) (table (r .count) (profit book)) (sym (p .shape-is)) (held p))
-        go (refused n p) h = absurd (not-told n p h)
+        text : (book : Book) → PlanOf book r → Put before after 0 (printedPlan book (at (r .entries)) earned number cut) k
+        text book p = prints .text book (book .limits) (table (r .count) (profit book)) (sym (p .shape-is)) (held p)
+
+        -- the file was read, so there is a book to print
+        go : {P : Type 0} → ((book : Book) → PlanOf book r → P) → P
+        go {P} of = by (reading file) refl
+          where
+            by : (o : Outcome Book) → reading file ≡ o → P
+            by (done book) h = of book (made book h)
+            by (refused n p) h = absurd (not-told n p h)
 
         shown : (book : Book) → PlanOf book r → PlanPage book after k
         shown book p =
@@ -126,7 +143,7 @@ module _ {file : List ℕ} {r : BookPlan} (b : BookPlanned file 256 64 r) where
               number = number;
               cut = cut;
               planned = record { fair = p .planned .fair; best-there = p .planned .best-there; channels = p .planned .channels; earned-is = first ∙ p .planned .earned-is; number-is = second ∙ p .planned .number-is; cut-is = third ∙ p .planned .cut-is };
-              text = put-front (prints .text book (book .limits) (table (r .count) (profit book)) (sym (p .shape-is)) (held p));
+              text = put-front (text book p);
             }
           where
             told-so : r .answer ≡ Planned (p .earned) (p .number) (p .cut)

@@ -2,9 +2,9 @@
 ghost use Rattle.page.specs.Page.{Paged};
 use planner::Answer;
 
-// Writes the page of a book at the front of the buffer and answers its length.
+// Writes the page of a book at the front of the buffer, leaves the rest of it as it was, and answers the page's length.
 pub fn page(file: &[u8], out: &mut [u8; 4096]) -> usize
-    ensures { λ r. ⌜ Paged (now (file .entry)) (now (out .exit)) r ⌝ }
+    ensures { λ r. ⌜ Paged (now (file .entry)) (now (out .entry)) (now (out .exit)) r ⌝ }
 {
     let plan = planner::plan_book(file, 256, 64);
     let answer = plan.answer;

@@ -1,0 +1,69 @@
+-- Two outcomes allowed by the same statement are equal (01, "How far the statements reach"), as far as refusals go: of reading, of the checker and of the
+-- planner, as a number and a place, and at the desk's boundary as the answer and the later content of both lists. Assumes nothing.
+use mathlib.Core.List.{List}
+use mathlib.Core.Path.{_≡_, refl, sym, ap₂, _∙_}
+use Prim.Native.Nat.{ℕ}
+use native.Mathlib.Omega.{arith}
+use Rattle.book.specs.Book.{Book}
+use Rattle.book.specs.Reading.{Outcome, done, refused}
+use Rattle.rules.specs.Operations.{plannableIn, plannable, checker}
+use Rattle.reader.specs.declared.Refusal.{Refusal}
+use Rattle.reader.specs.declared.Taken.{Taken}
+use Rattle.reader.specs.Says.{outcomeOf, Reads}
+use Rattle.verdict.specs.declared.Checked.{Checked}
+use Rattle.verdict.specs.declared.Checked.the-variants.{Yes, No, Refused}
+use Rattle.verdict.specs.Checked.{checkedOf}
+use Rattle.planner.specs.declared.Answer.the-variants as Planner
+use Rattle.planner.specs.declared.BookPlan.{BookPlan}
+use Rattle.planner.specs.Promise.{BookPlanned}
+use Rattle.desk.specs.Promise.{PlanAnswer}
+
+-- reading: the same book, or the same number and place
+pub read-equal :
+    {file : List ℕ} {taken other : Taken} → Reads file taken → Reads file other
+    → outcomeOf (taken .answer) (taken .limits) (taken .count) (taken .requests) ≡ outcomeOf (other .answer) (other .limits) (other .count) (other .requests)
+read-equal p q = p .says ∙ sym (q .says)
+
+-- the checker: the same answer, a refusal with its number and place included
+same-checked : (c d : Checked) → checkedOf c ≡ checkedOf d → c ≡ d
+unfolding checkedOf
+same-checked Yes Yes e = refl
+same-checked Yes No e = let z : _≡_ {A = ℕ} 0 1 = cc in absurd (omega arith)
+same-checked Yes (Refused r) e = let z : _≡_ {A = ℕ} 0 1 = cc in absurd (omega arith)
+same-checked No Yes e = let z : _≡_ {A = ℕ} 0 1 = cc in absurd (omega arith)
+same-checked No No e = refl
+same-checked No (Refused r) e = let z : _≡_ {A = ℕ} 0 1 = cc in absurd (omega arith)
+same-checked (Refused r) Yes e = let z : _≡_ {A = ℕ} 0 1 = cc in absurd (omega arith)
+same-checked (Refused r) No e = let z : _≡_ {A = ℕ} 0 1 = cc in absurd (omega arith)
+same-checked (Refused r) (Refused s) e =
+    let number : r .number ≡ s .number = cc in
+    let place : r .place ≡ s .place = cc in
+    ap₂ (λ n at. Refused (record { number = n; place = at })) number place
+
+pub checked-equal :
+    (file entries prices : List ℕ) {c d : Checked} → checkedOf c ≡ checker file entries prices → checkedOf d ≡ checker file entries prices → c ≡ d
+checked-equal file entries prices {c} {d} p q = same-checked c d (p ∙ sym q)
+
+-- the planner: where one outcome is a refusal, the other is the same one
+pub planner-refusal-equal :
+    {file : List ℕ} {entryPlaces pricePlaces : ℕ} {r other : BookPlan} {refusal : Refusal}
+    → BookPlanned file entryPlaces pricePlaces r → BookPlanned file entryPlaces pricePlaces other → r .answer ≡ Planner.Refused refusal → other .answer ≡ Planner.Refused refusal
+planner-refusal-equal {file} {entryPlaces} {pricePlaces} {r} {other} {refusal} p q e = go (plannableIn file entryPlaces pricePlaces) refl
+  where
+    go : (o : Outcome Book) → plannableIn file entryPlaces pricePlaces ≡ o → other .answer ≡ Planner.Refused refusal
+    go (refused n at) is = q .refusal n at is ∙ sym (p .refusal n at is) ∙ e
+    go (done book) is = let z : _≡_ {A = ℕ} 0 1 = let s = p .plan book is .says in cc in absurd (omega arith)
+
+-- the desk: where the book or the lists are refused, the answers are equal, and so is every byte of both lists afterwards
+module _ {file entries prices entries₁ prices₁ entries₂ prices₂ : List ℕ} {answer₁ answer₂ number place : ℕ}
+    (p : PlanAnswer file entries prices answer₁ entries₁ prices₁) (q : PlanAnswer file entries prices answer₂ entries₂ prices₂)
+    (refusal : plannable file entries prices ≡ refused number place)
+  where
+    pub desk-refusal-equal : answer₁ ≡ answer₂
+    desk-refusal-equal = p .refusal number place refusal .0 ∙ sym (q .refusal number place refusal .0)
+
+    pub desk-entries-equal : entries₁ ≡ entries₂
+    desk-entries-equal = p .refusal number place refusal .1 ∙ sym (q .refusal number place refusal .1)
+
+    pub desk-prices-equal : prices₁ ≡ prices₂
+    desk-prices-equal = p .refusal number place refusal .2 ∙ sym (q .refusal number place refusal .2)
