@@ -1,6 +1,6 @@
 -- Refusals 1 to 11: for each row of 01's table "Refusals by number", when it is given for record r of a file f.
 -- A record is 16 bytes (01, "Order book records"); record 0 is the network, then the spans, then the requests. Assumes nothing.
-use mathlib.Core.Bool.{Bool, true, false, not, _&&_, _||_, cond}
+use mathlib.Core.Bool.{Bool, false, not, _&&_, _||_, cond}
 use mathlib.Core.List.{List, [], _∷_}
 use Prim.Native.Nat.{ℕ, _+_, _*_, _-_, _/_, _%_}
 use lib.ListN.{length, getD}

@@ -1,11 +1,10 @@
 -- Two outcomes allowed by the same statement are equal (01, "How far the statements reach"): earnings and cut of two plans that the planner might hand back,
 -- and, where they keep the same requests, their entries and numbers kept; and two accepted price lists of one book say yes to the same plans. Assumes nothing.
-use mathlib.Core.Bool.{Bool, true, false}
+use mathlib.Core.Bool.{true}
 use mathlib.Core.Logic.{⊎-elim}
 use mathlib.Core.Path.{_≡_, refl, sym, ap, subst, _∙_}
-use Prim.Native.Nat.{ℕ, _≤_, _<_}
+use Prim.Native.Nat.{ℕ, _<_}
 use native.Mathlib.Omega.{arith}
-use Rattle.sums.specs.Each.{decided}
 use Rattle.sums.specs.Sums.{Σ-ext, bit}
 use Rattle.book.specs.Book.{Book, count}
 use Rattle.book.specs.Sound.{Sound}

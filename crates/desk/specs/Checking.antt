@@ -1,9 +1,8 @@
 -- The checker's answer as one number: for every case of its enum the packing of what it means. Assumes nothing.
-use mathlib.Core.Bool.{Bool, true, false}
 use mathlib.Core.List.{List}
-use mathlib.Core.Path.{_≡_, refl, sym, ap, _∙_}
+use mathlib.Core.Path.{_≡_, sym, ap, _∙_}
 use Prim.Native.Nat.{ℕ}
-use Rattle.book.specs.Reading.{Outcome, done, refused}
+use Rattle.book.specs.Reading.{refused}
 use Rattle.rules.specs.Operations.{checker}
 use Rattle.reader.specs.declared.Refusal.{Refusal}
 use Rattle.verdict.specs.declared.Checked.{Checked}

@@ -1,12 +1,10 @@
 -- The two ends of a search from b for a. Either a is the nearest open node, nearer than `most`: then it is ranked last, and the arcs back to b
 -- are tight once every node is deepened to a's label. Or no open node is nearer than `most`. Assumes nothing.
-use mathlib.Core.Path.{_≡_, refl, sym, ap, subst, _∙_}
+use mathlib.Core.Path.{_≡_, ap}
 use mathlib.Core.Logic.{⊎-elim}
-use Prim.Native.Nat.{ℕ, suc, _+_, _-_, _≤_, _<_}
-use native.Mathlib.Nat.{eq-zero-or-pos}
+use Prim.Native.Nat.{ℕ, _≤_, _<_}
 use native.Mathlib.Omega.{arith}
 use Rattle.sums.specs.Each.{same-or-not}
-use Rattle.row.specs.Row.{Row}
 use Rattle.flow.specs.Balanced.{Proper, Deep}
 use Rattle.flow.specs.Searching.{Ground, Searching}
 use Rattle.flow.specs.Walking.{Open}

@@ -2,13 +2,13 @@
 -- short enough, or kept, and the walk back begins. Assumes nothing.
 use mathlib.Core.Path.{_≡_, refl, sym, ap, _∙_}
 use mathlib.Core.Bool.{Bool, true, false}
-use Prim.Native.Nat.{ℕ, zero, suc, _+_, _-_, _≤_, _<_}
+use Prim.Native.Nat.{ℕ, zero, suc, _+_, _≤_, _<_}
 use native.Mathlib.Omega.{arith}
 use mathlib.Core.Logic.{⊎-elim}
-use native.Mathlib.Nat.{eq-or-lt-of-le, le-of-suc-le-suc}
+use native.Mathlib.Nat.{eq-or-lt-of-le}
 use Rattle.sums.specs.Each.{of-yes}
 use Rattle.row.specs.Row.{Row}
-use Rattle.flow.specs.Balanced.{Proper, Deep, Balanced}
+use Rattle.flow.specs.Balanced.{Proper, Balanced}
 use Rattle.flow.specs.Certificate.{deep-more, dropped-at-once}
 use Rattle.flow.specs.Searching.{Ground}
 use Rattle.flow.specs.Raise.{raised}

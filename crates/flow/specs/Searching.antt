@@ -3,9 +3,8 @@
 -- 0 until a node is settled and then counts up; by and from say by which arc and from which node a label came. Assumes nothing.
 use mathlib.Core.Bool.{Bool, true, false}
 use mathlib.Core.Path.{_≡_}
-use Prim.Native.Nat.{ℕ, suc, _+_, _-_, _≤_, _<_}
+use Prim.Native.Nat.{ℕ, suc, _+_, _≤_, _<_}
 use Rattle.row.specs.Row.{Row}
-use Rattle.flow.specs.Balanced.{Deep}
 
 -- What a search goes over, fixed while it runs: the row, its first t candidates (t at most 256), and the state that they left.
 pub record Ground : Type 0 where

@@ -2,7 +2,7 @@
 -- passed upwards gains room and one passed downwards loses it. At node v the loads are right but for the cells between v and b. Assumes nothing.
 use mathlib.Core.Bool.{Bool, true, false, _&&_}
 use mathlib.Core.Path.{_≡_}
-use Prim.Native.Nat.{ℕ, suc, _+_, _-_, _≤_, _<_}
+use Prim.Native.Nat.{ℕ, suc, _+_, _≤_, _<_}
 use lib.Dec.{leb, ltb}
 use Rattle.sums.specs.Sums.{bit}
 use Rattle.row.specs.Row.{Row}

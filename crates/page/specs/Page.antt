@@ -1,13 +1,12 @@
 -- What the printing program writes: the text of the reading's refusal, or of a plan that the planner hands back. Lists of 256 and 64 places are long enough
 -- for every book, so 12 is never printed. Assumes nothing.
-use mathlib.Core.Bool.{Bool, true, false, _&&_, _||_, cond, and-false}
+use mathlib.Core.Bool.{Bool, false, cond, and-false}
 use mathlib.Core.List.{List}
 use mathlib.Core.Logic.{⊎-elim}
 use mathlib.Core.Path.{_≡_, refl, sym, ap, _∙_}
-use Prim.Native.Nat.{ℕ, _≤_, _<_}
+use Prim.Native.Nat.{ℕ, _≤_}
 use native.Mathlib.Omega.{arith}
 use borrow.Author.Tests.{le-ltb}
-use lib.Dec.{ltb}
 use lib.ListN.{length, take, drop, length-take}
 use Rattle.sums.specs.Table.{table, table-at}
 use Rattle.book.specs.Book as Books

@@ -2,12 +2,12 @@
 use mathlib.Core.Path.{_≡_, sym, _∙_}
 use mathlib.Core.Bool.{Bool, true, false}
 use mathlib.Core.Logic.{⊎-elim}
-use Prim.Native.Nat.{ℕ, _+_, _≤_, _<_}
+use Prim.Native.Nat.{ℕ, _≤_, _<_}
 use native.Mathlib.Omega.{arith}
-use borrow.Author.Tests.{leb-true, leb-false, le-leb, lt-leb}
+use borrow.Author.Tests.{leb-true, leb-false, le-leb}
 use lib.Dec.{leb}
-use Rattle.sums.specs.Each.{each, each-at, each-of, each-breaks, first, seek, Sought, sought, first-is, less-or-not, decided, of-yes}
-use Rattle.sums.specs.Greatest.{Greatest, greatest}
+use Rattle.sums.specs.Each.{each, each-at, each-of, each-breaks, Sought, sought, first-is, less-or-not, decided, of-yes}
+use Rattle.sums.specs.Greatest.{greatest}
 use Rattle.book.specs.Book.{Book, spans}
 use Rattle.rules.specs.Cuts.{cutBest, cut}
 use Rattle.rings.specs.Ring.{Ring}

@@ -1,13 +1,13 @@
 -- A way crosses a span of the ring, the cut apart, exactly when it crosses that span's place on the line which the cut leaves, and it never crosses the cut.
 -- Going up the ring from u to v without passing the cut is going up the line between their places. Assumes nothing.
-use mathlib.Core.Path.{_≡_, refl, sym, ap, ap₂, subst, _∙_}
-use mathlib.Core.Bool.{Bool, true, false, not, _&&_, _||_, cond, or-false}
-use mathlib.Core.Logic.{_⊎_, inl, inr, ⊎-elim, _↔_}
-use Prim.Native.Nat.{ℕ, _+_, _-_, _≤_, _<_}
+use mathlib.Core.Path.{_≡_, refl, sym, ap, _∙_}
+use mathlib.Core.Bool.{Bool, true, false, _&&_, _||_, cond, or-false}
+use mathlib.Core.Logic.{_⊎_, inl, inr, ⊎-elim}
+use Prim.Native.Nat.{ℕ, _+_, _≤_, _<_}
 use native.Mathlib.Omega.{arith}
-use borrow.Author.Tests.{ltb-true, ltb-false, lt-ltb, le-ltb, eqb-true}
-use lib.Dec.{leb, ltb, eqb}
-use Rattle.sums.specs.Each.{less-or-not, decided, of-yes}
+use borrow.Author.Tests.{lt-ltb, le-ltb, eqb-true}
+use lib.Dec.{leb, ltb}
+use Rattle.sums.specs.Each.{less-or-not, decided}
 use Rattle.book.specs.Means.{less, at-most, and, or}
 use Rattle.book.specs.Book.{Book, spans, count, endA, endB}
 use Rattle.rules.specs.Ways.{upward, crosses, wayExists, lineWay}

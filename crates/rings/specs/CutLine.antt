@@ -3,12 +3,12 @@ use mathlib.Core.Path.{_≡_, refl, sym, ap, _∙_}
 use mathlib.Core.List.{List, [], _∷_, map}
 use mathlib.Core.Logic.{inl}
 use mathlib.Core.Bool.{cond}
-use Prim.Native.Nat.{ℕ, zero, suc, _+_, _-_, _≤_, _<_}
+use Prim.Native.Nat.{ℕ, zero, suc, _+_, _-_, _<_}
 use native.Mathlib.Omega.{arith}
 use lib.ListN.{length, getD, length-map}
 use lib.Dec.{eqb}
-use Rattle.sums.specs.Table.{table, length-table, table-at}
-use Rattle.book.specs.Book.{Book, Request, spansOf, spans, limit, count, request, endA, endB, profit}
+use Rattle.sums.specs.Table.{length-table, table-at}
+use Rattle.book.specs.Book.{Book, spansOf, spans, limit, count, request, endA, endB, profit}
 use Rattle.book.specs.Sound.{Sound}
 use Rattle.rules.specs.Cuts.{steps, spanAt, moved, cutLine}
 use Rattle.lines.specs.Line.{Line}

@@ -9,7 +9,6 @@ use Rattle.book.specs.Book.{Book, spans}
 use Rattle.book.specs.Reading.{done, reading}
 use Rattle.book.specs.Sound.{sound}
 use Rattle.rules.specs.Plans.{Plan, earnings, obeys, Best}
-use Rattle.rules.specs.Best.{best}
 use Rattle.rules.specs.Cuts.{cutLine, cutBest, cut}
 use Rattle.lines.specs.Best.{most, best-is}
 use Rattle.rings.specs.Ring.{Ring}

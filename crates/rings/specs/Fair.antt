@@ -10,8 +10,8 @@ use lib.Dec.{eqb}
 use Rattle.sums.specs.Each.{same-or-not, decided, of-yes}
 use Rattle.sums.specs.Tests.{when-so}
 use Rattle.sums.specs.Sums.{Σ, when, bit, Σ-ext, Σ-zero}
-use Rattle.book.specs.Book.{Book, isRing, spans, limit, count, endA, endB, profit}
-use Rattle.rules.specs.Ways.{crosses, wayExists}
+use Rattle.book.specs.Book.{Book, isRing, spans, limit, count}
+use Rattle.rules.specs.Ways.{wayExists}
 use Rattle.rules.specs.Plans.{Plan, kept, way, channel, over, load, earnings, numberKept, obeys}
 use Rattle.rules.specs.Cuts.{steps, spanAt, cutLine}
 use Rattle.lines.specs.Obeys.{Fair, obeys-fair, fair-obeys}

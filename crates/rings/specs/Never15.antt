@@ -1,16 +1,15 @@
 -- Refusal 15 is never given: a kept set that a best plan has is within its limits, and there the rule always finds a channel. Assumes nothing.
 use mathlib.Core.Path.{_≡_, refl, sym, ap, subst, _∙_}
-use mathlib.Core.Bool.{Bool, true, false, _&&_, cond}
+use mathlib.Core.Bool.{Bool, _&&_, cond}
 use mathlib.Core.Logic.{⊎-elim}
 use Prim.Native.Nat.{ℕ, _≤_, _<_}
 use native.Mathlib.Omega.{arith}
-use borrow.Author.Tests.{eq-eqb}
 use lib.Dec.{eqb}
 use Rattle.sums.specs.Sums.{bit, Σ-ext}
-use Rattle.book.specs.Book.{Book, isRing, spans, limit, count}
+use Rattle.book.specs.Book.{Book, spans, limit, count}
 use Rattle.book.specs.Sound.{Sound}
 use Rattle.rules.specs.Ways.{crosses}
-use Rattle.rules.specs.Plans.{Plan, kept, way, channel, over, load, obeys, Best}
+use Rattle.rules.specs.Plans.{Plan, kept, way, over, load}
 use Rattle.rules.specs.Cuts.{cutLine, cut, planLine}
 use Rattle.rules.specs.Operations.{NoneLeft}
 use Rattle.lines.specs.Line.{Line}

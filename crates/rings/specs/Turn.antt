@@ -1,12 +1,11 @@
 -- Places along the line which a cut leaves: a node or a span is counted from the node after the cut. Every number but the cut's own span has one place, and
 -- going round the ring from the cut is going along the line. Assumes nothing.
-use mathlib.Core.Path.{_≡_, refl, ap, _∙_}
+use mathlib.Core.Path.{_≡_, ap, _∙_}
 use mathlib.Core.Bool.{cond}
 use mathlib.Core.Logic.{_⊎_, inl, inr, ⊎-elim}
 use Prim.Native.Nat.{ℕ, _+_, _-_, _≤_, _<_}
 use native.Mathlib.Omega.{arith}
 use borrow.Author.Tests.{le-leb, lt-leb}
-use lib.Dec.{leb}
 use Rattle.sums.specs.Each.{less-or-not}
 use Rattle.rules.specs.Cuts.{steps, spanAt}
 

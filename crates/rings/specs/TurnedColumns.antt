@@ -3,7 +3,7 @@ use mathlib.Core.Path.{_≡_, sym, ap, _∙_}
 use mathlib.Core.List.{List}
 use Prim.Native.Nat.{ℕ, _+_, _<_}
 use native.Mathlib.Omega.{arith}
-use Rattle.book.specs.Book.{Book, limit}
+use Rattle.book.specs.Book.{Book}
 use Rattle.book.specs.Columns.{at, Holds}
 use Rattle.rules.specs.Cuts.{steps, spanAt, cutLine}
 use Rattle.rings.specs.Ring.{Ring}

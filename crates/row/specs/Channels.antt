@@ -1,6 +1,6 @@
 -- Channels by the lowest-free rule. A kept candidate's channel is at most the load at its first cell, since every lower channel is held
 -- by an earlier one that is over that cell too: so the rule always finds a channel, and no two that meet share one. Assumes nothing.
-use mathlib.Core.Bool.{Bool, true, false, _&&_}
+use mathlib.Core.Bool.{Bool, true, _&&_}
 use mathlib.Core.Path.{_≡_, refl, sym, ap, _∙_}
 use mathlib.Core.Logic.{⊎-elim}
 use Prim.Native.Nat.{ℕ, zero, suc, _≤_, _<_}

@@ -1,5 +1,5 @@
 -- Rings (01, "What the planner hands back", ring): the line that a cut leaves, and the choice of the cut. Assumes nothing.
-use mathlib.Core.Bool.{Bool, cond}
+use mathlib.Core.Bool.{cond}
 use mathlib.Core.List.{map}
 use Prim.Native.Nat.{ℕ, _+_, _-_}
 use lib.Dec.{leb}

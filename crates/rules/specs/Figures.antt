@@ -4,7 +4,6 @@ use mathlib.Core.Bool.{Bool, true, false, _&&_, cond}
 use mathlib.Core.List.{List, [], _∷_}
 use mathlib.Core.Path.{_≡_, refl}
 use Prim.Native.Nat.{ℕ, zero, suc, _+_, _*_, _/_, _%_, _^_}
-use lib.ListN.{getD}
 use lib.Dec.{leb, eqb}
 use Rattle.sums.specs.Each.{each, some, seek}
 use Rattle.sums.specs.Sums.{Σ, when}
@@ -15,11 +14,11 @@ use Rattle.book.specs.Book.{Book, spansOf, spans, limit, count, endA, endB, pro
 use Rattle.book.specs.Refusals.{start, records, present, kindIn, markIn, numberIn, shapeIn, nodesIn, channelsIn, spansIn, limitIn, aIn, bIn, profitIn, countWrong, networkWrong, nodesWrong, channelsWrong, spanWrong, markWrong, limitWrong, tooMany, requestWrong, endsWrong, profitWrong, rows, fault}
 use Rattle.book.specs.Reading.{Outcome, done, refused, andThen, due, requestOf, bookOf, faultyRecord, reading}
 use Rattle.rules.specs.Ways.{upward, crosses, wayExists, lineWay, crossed}
-use Rattle.rules.specs.Plans.{Plan, kept, way, channel, numberKept, earnings, over, load, share, formed, apart, obeys}
+use Rattle.rules.specs.Plans.{Plan, kept, way, channel, earnings, over, load, share, formed, apart, obeys}
 use Rattle.rules.specs.Channels.{lowerEnd, earlier, heldBefore, byRule}
 use Rattle.rules.specs.Best.{fits, lowered, bestWithin, best}
 use Rattle.rules.specs.Cuts.{steps, spanAt, moved, cutLine, cutBest, cut, planLine, cutShown}
-use Rattle.rules.specs.Prices.{Prices, priceOf, ceiling, verdict}
+use Rattle.rules.specs.Prices.{priceOf, ceiling, verdict}
 use Rattle.rules.specs.Operations.{placesShort, tooShort, tooDear, checking, checker}
 
 -- ---- questions and answers

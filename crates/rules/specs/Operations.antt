@@ -3,7 +3,7 @@
 use mathlib.Core.Bool.{Bool, true, _&&_, _||_, cond}
 use mathlib.Core.List.{List}
 use mathlib.Core.Path.{_≡_}
-use Prim.Native.Nat.{ℕ, _+_, _≤_, _<_}
+use Prim.Native.Nat.{ℕ, _≤_, _<_}
 use lib.Dec.{ltb}
 use Rattle.sums.specs.Each.{first}
 use Rattle.book.specs.Bytes.{entryPlaces, pricePlaces, entryIn, priceIn}

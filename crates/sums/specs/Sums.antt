@@ -1,12 +1,11 @@
 -- Sums over the numbers below a bound, and what a test counts for. Every total of document 01 (a load, earnings, a ceiling)
 -- is one of these. Assumes nothing.
 use mathlib.Core.Path.{_≡_, refl, sym, ap, ap₂, subst, _∙_}
-use mathlib.Core.Bool.{Bool, true, false, not, _&&_, _||_}
+use mathlib.Core.Bool.{Bool, true, false, _&&_}
 use mathlib.Core.Logic.{⊎-elim}
-use Prim.Native.Nat.{ℕ, zero, suc, _+_, _*_, _-_, _≤_, _<_}
+use Prim.Native.Nat.{ℕ, zero, suc, _+_, _*_, _≤_, _<_}
 use native.Mathlib.Nat.{eq-or-lt-of-le, le-of-suc-le-suc}
 use native.Mathlib.Omega.{arith}
-use lib.Dec.{T}
 
 -- f 0 + f 1 + .. + f (n − 1)
 unfoldable pub Σ : ℕ → (ℕ → ℕ) → ℕ

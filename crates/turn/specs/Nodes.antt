@@ -4,7 +4,6 @@ use mathlib.Core.Path.{_≡_, sym, ap}
 use mathlib.Core.Bool.{cond}
 use Prim.Native.Nat.{ℕ, _+_, _-_, _≤_, _<_}
 use borrow.Author.Tests.{le-leb, lt-leb}
-use lib.Dec.{leb}
 use Rattle.book.specs.Columns.{at}
 use Rattle.rules.specs.Cuts.{steps, spanAt}
 

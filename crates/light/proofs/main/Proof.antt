@@ -4,11 +4,6 @@ use mathlib.Core.Path.{sym}
 use lib.Seq.{length-take-le}
 use Rattle.light.proofs.main.Statement.{statement}
 use Rattle.light.proofs.main.Tie as tie
-use Rattle.light.proofs.main.Reads as reads
-use Rattle.light.proofs.main.Lts as lts
-use Rattle.io.proofs.read_full.Reads as read-full-reads
-use Rattle.io.proofs.write_all.Reads as write-all-reads
-use Rattle.page.proofs.page.Reads as page-reads
 
 -- src/main.rt:5:30
 slice-aggregate-read-full : tie.Need-slice-aggregate-read-full

@@ -1,6 +1,6 @@
 -- `turn::turn_ends` meets its contract: the first i ends are turned, and a store turns the next one. Assumes nothing.
 use mathlib.Core.Path.{_≡_, refl, _∙_}
-use Prim.Native.Nat.{ℕ, _+_, _-_, _≤_, _<_}
+use Prim.Native.Nat.{_+_, _-_, _≤_}
 use native.Mathlib.Omega.{arith}
 use lib.ListN.{length, length-set}
 use Rattle.sums.specs.Filled.{Filled, filled-none, filled-more}

@@ -1,7 +1,7 @@
 -- `turn::turn_limits` meets its contract: the first t limits stand in the line's order, and a store puts the next one. Assumes nothing.
 use mathlib.Core.Path.{_≡_, refl, ap, _∙_}
 use denote.Ref.{now}
-use Prim.Native.Nat.{ℕ, _+_, _-_, _≤_, _<_}
+use Prim.Native.Nat.{_-_, _≤_, _<_}
 use native.Mathlib.Omega.{arith}
 use lib.ListN.{length, length-set}
 use Rattle.sums.specs.Filled.{Filled, filled-none, filled-more}
