@@ -2,6 +2,7 @@ pub mod Promise
 pub mod Steps
 pub mod Laying
 pub mod Entering
+pub mod Placing
 pub mod Totals
 pub mod Solving
 pub mod AsRow

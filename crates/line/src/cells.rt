@@ -4,7 +4,8 @@ ghost use Prim.Native.Nat.{_-_, _≤_, min};
 ghost use Rattle.signed.specs.Parts.{dn};
 ghost use Rattle.sums.specs.Filled.{Filled};
 ghost use Rattle.book.specs.Columns.{at};
-ghost use Rattle.line.specs.Steps.{Profits, Candidates, CanSolve, Solves, Falls, Falling, prices-of};
+ghost use Rattle.line.specs.Steps.{Profits, Candidates, CanSolve, Solves, Falls, prices-of};
+ghost use Rattle.line.specs.Placing.{CanPrice, Placed};
 
 // The lower and the upper end of each request, and its cost: minus its profit.
 fn lay(
@@ -74,16 +75,28 @@ pub fn solve(
     planrow::plan_row(cells, count, lo, hi, cost, kept, room, dist);
 }
 
-// The price of each cell: what the distance falls by along it, and no more than 1,000,000.
-pub fn price(cells: usize, dist: &[i64; 128], prices: &mut [usize; 64])
-    requires { ⌜ Falling cells (now dist) ⌝ }
-    ensures { λ r. ⌜ Filled (prices-of (now (dist .entry))) cells (now (prices .exit)) ⌝ }
+// Where the price of each cell goes: on a line, cell j is span j.
+pub fn places(cells: usize, place: &mut [usize; 128])
+    requires { ⌜ cells ≤ 63 ⌝ }
+    ensures { λ r. ⌜ Filled (λ j. j) cells (now (place .exit)) ⌝ }
 {
     // tells how many places there are
-    let all = &prices[..];
+    let all = &place[..];
     let mut j = 0;
     while j < cells {
-        prices[j] = capped(dist[j], dist[j + 1]);
+        place[j] = j;
+        j += 1;
+    }
+}
+
+// The price of each cell, at its place: what the distance falls by along the cell, and no more than 1,000,000.
+pub fn price(cells: usize, dist: &[i64; 128], place: &[usize; 128], prices: &mut [usize])
+    requires { ⌜ CanPrice cells (now dist) (now place) (now prices) ⌝ }
+    ensures { λ r. ⌜ Placed (prices-of (now (dist .entry))) (now (place .entry)) cells (now (prices .entry)) (now (prices .exit)) ⌝ }
+{
+    let mut j = 0;
+    while j < cells {
+        prices[place[j]] = capped(dist[j], dist[j + 1]);
         j += 1;
     }
 }

@@ -78,6 +78,7 @@ pub fn plan_line(
     let mut dist = [0i64; 128];
     let mut channel = [0usize; 256];
     let mut entries = [0usize; 256];
+    let mut place = [0usize; 128];
     let mut prices = [0usize; 64];
     let cells = nodes - 1;
     cells::solve(
@@ -103,7 +104,8 @@ pub fn plan_line(
         };
     }
     entries::enter(count, a, b, &kept, &channel, &mut entries);
-    cells::price(cells, &dist, &mut prices);
+    cells::places(cells, &mut place);
+    cells::price(cells, &dist, &place, &mut prices[..cells]);
     let answer = Solved::Planned {
         earned: entries::earned(count, &kept, profit),
         number: entries::number(count, &kept),

@@ -1,11 +1,13 @@
 -- Each call is asked for what the calls before it ensure, and in the end the promise is theirs together: `Promised` has every step. The channels
 -- are never used up, by what `hand_out` ensures. Assumes nothing.
-use mathlib.Core.Path.{_≡_}
+use mathlib.Core.Path.{_≡_, sym}
 use Prim.Native.Nat.{ℕ}
 use native.Mathlib.Omega.{arith}
 use borrow.Author.Needs.{needs}
+use lib.Seq.{length-take-le}
 use Rattle.channels.specs.declared.Given.the-variants.{All, NoneLeft}
 use Rattle.line.specs.Promised.{can-solve, can-hand-out, channels-small, falling, planned}
+use Rattle.line.specs.Placing.{line-places, line-placed}
 use Rattle.line.proofs.plan_line.Statement.{statement}
 use Rattle.line.proofs.plan_line.Tie as tie
 
@@ -19,8 +21,11 @@ solved h = h .before .before .before .before .before
 abbrev handed : tie.After-enter → tie.After-hand-out
 handed e = e .before .before .before .before .before .before
 
-abbrev entered : tie.After-price → tie.After-enter
-entered p = p .before .before .before
+abbrev entered : tie.After-places → tie.After-enter
+entered m = m .before .before
+
+abbrev mapped : tie.After-price → tie.After-places
+mapped p = p .before .before .before .before
 
 sub-cells : tie.Need-sub-cells
 sub-cells c = search needs
@@ -52,22 +57,38 @@ enter-requires c κs =
     let s = solved h in
     channels-small (start s .pre) (s .solve .ensures) (h .hand-out .ensures)
 
+places-requires : tie.Need-places-requires
+places-requires c κs = let s = solved (handed (c .before)) in can-solve (start s .pre) .cells-upto
+
+array-borrow-prefix-prices : tie.Need-array-borrow-prefix-prices
+array-borrow-prefix-prices c = let s = solved (handed (entered (c .before .before))) in omega (arith, can-solve (start s .pre) .cells-upto)
+
+slice-aggregate-price : tie.Need-slice-aggregate-price
+slice-aggregate-price c = let s = solved (handed (entered (c .before .before .before))) in sym (length-take-le _ _ (omega (arith, can-solve (start s .pre) .cells-upto)))
+
 price-requires : tie.Need-price-requires
-price-requires c κs = let s = solved (handed (c .before .before)) in falling (start s .pre) (s .solve .ensures)
+price-requires c κs =
+    let m = c .before .before .before in
+    let s = solved (handed (entered m)) in
+    record {
+      falling = falling (start s .pre) (s .solve .ensures);
+      places = line-places (m .places .ensures) (length-take-le _ _ (omega (arith, can-solve (start s .pre) .cells-upto)));
+    }
 
 earned-requires : tie.Need-earned-requires
-earned-requires c κs = let s = solved (handed (entered (c .before))) in can-solve (start s .pre) .profits-are
+earned-requires c κs = let s = solved (handed (entered (mapped (c .before .before)))) in can-solve (start s .pre) .profits-are
 
 number-requires : tie.Need-number-requires
-number-requires c κs = let s = solved (handed (entered (c .before .before .before))) in can-solve (start s .pre) .profits-are .few
+number-requires c κs = let s = solved (handed (entered (mapped (c .before .before .before .before)))) in can-solve (start s .pre) .profits-are .few
 
 returns-2 : tie.Need-returns-2
 returns-2 c =
-    let p = c .before .before .before .before in
-    let e = entered p in
+    let p = c .before .before .before .before .before in
+    let m = mapped p in
+    let e = entered m in
     let h = handed e in
     let s = solved h in
-    λ w. planned w (s .solve .ensures) (h .hand-out .ensures) (e .enter .ensures) (p .price .ensures) (c .before .before .earned .ensures) (c .number .ensures)
+    λ w. planned w (s .solve .ensures) (h .hand-out .ensures) (e .enter .ensures) (line-placed (m .places .ensures) (length-take-le _ _ (omega (arith, can-solve w .cells-upto))) (p .price .ensures) _) (c .before .before .earned .ensures) (c .number .ensures)
 
 pub plan-line-spec : {M : Type 1} → statement M
 plan-line-spec =
@@ -80,6 +101,9 @@ plan-line-spec =
     returns
     enum-told
     enter-requires
+    places-requires
+    array-borrow-prefix-prices
+    slice-aggregate-price
     price-requires
     earned-requires
     number-requires

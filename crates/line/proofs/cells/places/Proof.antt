@@ -1,0 +1,52 @@
+-- Each turn fills one place with its own number. Assumes nothing.
+use mathlib.Core.Path.{_≡_, refl}
+use Prim.Native.Nat.{_-_, _≤_}
+use native.Mathlib.Omega.{arith}
+use lib.ListN.{length, length-set}
+use Rattle.sums.specs.Filled.{Filled, filled-none, filled-more}
+use Rattle.line.proofs.cells.places.Statement.{statement}
+use Rattle.line.proofs.cells.places.Tie as tie
+
+abbrev Inv-loop : tie.InvT-loop
+Inv-loop cells place₀ j₀ place j = (j ≤ cells) × (length place ≡ 128) × Filled (λ i. i) j place
+
+abbrev μ-loop : tie.MeasureT-loop
+μ-loop cells place₀ j₀ place j = cells - j
+
+loop-holds : tie.Need-loop-holds Inv-loop μ-loop
+loop-holds c = (omega arith, omega arith, filled-none _ _)
+
+mul-place : tie.Need-mul-place Inv-loop μ-loop
+mul-place c = omega arith
+
+element-write-place : tie.Need-element-write-place Inv-loop μ-loop
+element-write-place c = omega arith
+
+add-j : tie.Need-add-j Inv-loop μ-loop
+add-j c = omega arith
+
+loop-less : tie.Need-loop-less Inv-loop μ-loop
+loop-less c = omega arith
+
+loop-again : tie.Need-loop-again Inv-loop μ-loop
+loop-again c = (omega arith, simp length-set (omega arith), filled-more _ (c .before .loop .inv .2) (omega arith) refl)
+
+returns : tie.Need-returns Inv-loop μ-loop
+returns c =
+    let l = c .before .loop in
+    let all : l .j ≡ c .before .before .before .before .args .cells = omega arith in
+    rw all at (l .inv .2)
+
+pub places-spec : {M : Type 1} → statement M
+places-spec =
+    tie.close
+    (tie.spec
+    Inv-loop
+    μ-loop
+    loop-holds
+    mul-place
+    element-write-place
+    add-j
+    loop-less
+    loop-again
+    returns)
