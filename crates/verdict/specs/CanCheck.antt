@@ -3,12 +3,14 @@
 use mathlib.Core.Path.{_≡_}
 use mathlib.Core.List.{List}
 use Prim.Native.Nat.{ℕ, _*_, _≤_, _<_}
+use native.Mathlib.Omega.{arith}
 use lib.ListN.{length}
 use Rattle.sums.specs.Filled.{Filled}
 use Rattle.book.specs.Book as Books
-use Rattle.book.specs.Book.{Book, limit, endA, endB, profit}
+use Rattle.book.specs.Book.{Book, limit, endA, endB}
 use Rattle.book.specs.Bytes.{priceIn}
 use Rattle.lines.specs.Line.{Line}
+use Rattle.ceiling.specs.PricedLine.{HeldLine}
 
 -- an accepted line, its spans and requests counted, its limits and ends in columns
 pub record Drawn (book : Book) (spans : ℕ) (limits : List ℕ) (count : ℕ) (a b : List ℕ) : Type 0 where
@@ -19,11 +21,23 @@ pub record Drawn (book : Book) (spans : ℕ) (limits : List ℕ) (count : ℕ) (
   pub a-is : Filled (endA book) count a
   pub b-is : Filled (endB book) count b
 
--- with its profits, entries enough, and prices enough, none above 1,000,000
+-- an accepted line with its profits, entries enough, and prices enough, none above 1,000,000
 pub record CanCheck (spans : ℕ) (limits : List ℕ) (count : ℕ) (a b profits entries prices : List ℕ) : Type 0 where
   pub book : Book
-  pub drawn : Drawn book spans limits count a b
-  pub profit-is : Filled (profit book) count profits
+  pub held : HeldLine book spans count limits a b profits
   pub entries-enough : 2 * count ≤ length entries
   pub prices-enough : 4 * spans ≤ length prices
   pub price-upto : (s : ℕ) → s < spans → priceIn prices s ≤ 1000000
+
+-- the rules do not look at the profits
+pub drawn :
+    {book : Book} {spans count : ℕ} {limits a b profits : List ℕ} → HeldLine book spans count limits a b profits
+    → Drawn book spans limits count a b
+drawn h = record {
+  on = h .line;
+  spans-is = h .spans-is;
+  counted = h .holds .counted;
+  limit-is = record { is = λ s l. h .holds .limit-is s (omega (arith, h .spans-is)) };
+  a-is = record { is = h .holds .a-is };
+  b-is = record { is = h .holds .b-is };
+}

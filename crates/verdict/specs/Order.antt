@@ -72,15 +72,7 @@ module _
               pub can-check : CanCheck (network .nodes - 1) limits held a b profits entries prices
               can-check = record {
                 book = h .book;
-                drawn = record {
-                  on = line;
-                  spans-is = sym spans-are;
-                  counted = h .holds .counted;
-                  limit-is = record { is = λ s l. h .holds .limit-is s (omega (arith, spans-are)) };
-                  a-is = record { is = h .holds .a-is };
-                  b-is = record { is = h .holds .b-is };
-                };
-                profit-is = record { is = h .holds .profit-is };
+                held = record { line = line; spans-is = sym spans-are; holds = h .holds };
                 entries-enough = omega (arith, entries-reach);
                 prices-enough = omega (arith, prices-reach);
                 price-upto = λ s l. W.all-low (h .book) prices no-dear s (omega (arith, spans-are));

@@ -5,6 +5,7 @@ ghost use Prim.Native.Nat.{_+_, _*_, _≤_};
 ghost use lib.ListN.{length};
 ghost use lib.Dec.{ltb};
 ghost use Rattle.sums.specs.Each.{first};
+ghost use Rattle.sums.specs.Filled.{Filled};
 ghost use Rattle.book.specs.Bytes.{entryPlaces, pricePlaces, entryIn, priceIn};
 
 // Entry i.
@@ -46,4 +47,18 @@ pub fn dear(prices: &[u8], spans: usize) -> usize
         s += 1;
     }
     s
+}
+
+// The prices of the spans as a list of numbers.
+pub fn price_list(spans: usize, prices: &[u8], list: &mut [usize; 64])
+    requires { ⌜ (spans ≤ 64) × (4 * spans ≤ length (now prices)) ⌝ }
+    ensures { λ r. ⌜ Filled (priceIn (now (prices .entry))) spans (now (list .exit)) ⌝ }
+{
+    // tells how many places there are
+    let all = &list[..];
+    let mut s = 0;
+    while s < spans {
+        list[s] = price_at(prices, s);
+        s += 1;
+    }
 }

@@ -3,18 +3,19 @@ use native.Mathlib.Omega.{arith}
 use borrow.Author.Needs.{needs}
 use borrow.Author.Tests.{not-true, not-false}
 use Rattle.rules.specs.Prices.{verdict}
-use Rattle.verdict.specs.Balance.{few-spans, few}
+use Rattle.ceiling.specs.PricedLine.{few-spans, few}
+use Rattle.verdict.specs.CanCheck.{drawn}
 use Rattle.verdict.proofs.weigh.Statement.{statement}
 use Rattle.verdict.proofs.weigh.Tie as tie
 
 lawful-requires : tie.Need-lawful-requires
 lawful-requires c κs =
     let w = c .before .before .pre in
-    omega (arith, few-spans w, few w, w .entries-enough)
+    omega (arith, few-spans (w .held), few (w .held), w .entries-enough)
 
 returns : tie.Need-returns
 unfolding verdict
-returns c w k = rw (← c .before .lawful .ensures (w .book) (w .drawn) k, not-true (c .before .lawful .result) (c .if1 .taken))
+returns c w k = rw (← c .before .lawful .ensures (w .book) (drawn (w .held)) k, not-true (c .before .lawful .result) (c .if1 .taken))
 
 balanced-requires : tie.Need-balanced-requires
 balanced-requires c κs = search needs
@@ -22,7 +23,7 @@ balanced-requires c κs = search needs
 returns-2 : tie.Need-returns-2
 unfolding verdict
 returns-2 c w k =
-    rw (← c .before .before .lawful .ensures (w .book) (w .drawn) k, not-false (c .before .before .lawful .result) (c .before .if1 .left)) (c .balanced .ensures w)
+    rw (← c .before .before .lawful .ensures (w .book) (drawn (w .held)) k, not-false (c .before .before .lawful .result) (c .before .if1 .left)) (c .balanced .ensures w)
 
 pub weigh-spec : {M : Type 1} → statement M
 weigh-spec = tie.close (tie.spec lawful-requires returns balanced-requires returns-2)

@@ -1,27 +1,26 @@
--- `verdict::totals::balanced` meets its contract: its sums are the book's earnings and ceiling. Assumes nothing.
+-- `verdict::totals::balanced` meets its contract: its two numbers are the book's earnings and the ceiling of its prices. Assumes nothing.
 use native.Mathlib.Omega.{arith}
-use Rattle.verdict.specs.Balance.{priced, limited, can-tally, sum-fits, same-balance}
+use Rattle.ceiling.specs.PricedLine.{few-spans}
+use Rattle.verdict.specs.Balance.{can-earn, priced-line, same-balance}
 use Rattle.verdict.proofs.totals.balanced.Statement.{statement}
 use Rattle.verdict.proofs.totals.balanced.Tie as tie
 
-tolls-requires : tie.Need-tolls-requires
-tolls-requires c κs = priced (c .before .before .pre)
+price-list-requires : tie.Need-price-list-requires
+price-list-requires c κs =
+    let w = c .before .before .before .pre in
+    omega (arith, few-spans (w .held), w .prices-enough)
 
-tally-requires : tie.Need-tally-requires
-tally-requires c κs = can-tally (c .before .before .before .before .pre) (c .before .tolls .ensures)
+ceiling-of-requires : tie.Need-ceiling-of-requires
+ceiling-of-requires c κs = priced-line (c .before .before .before .before .before .pre) (c .before .price-list .ensures)
 
-rent-requires : tie.Need-rent-requires
-rent-requires c κs =
-    let w = c .before .before .before .before .before .pre in
-    (priced w, limited w)
-
-add-result : tie.Need-add-result
-add-result c =
-    let made = c .before .before .before .before in
-    omega (arith, sum-fits (made .before .before .before .pre) (made .tolls .ensures) (c .before .before .tally .ensures) (c .before .rent .ensures))
+earned-requires : tie.Need-earned-requires
+earned-requires c κs = can-earn (c .before .before .before .before .before .before .pre)
 
 returns : tie.Need-returns
-returns c w = same-balance w (c .before .before .before .before .before .tolls .ensures) (c .before .before .before .tally .ensures) (c .before .before .rent .ensures)
+unfolding priced-line
+returns c w =
+    let listed = c .before .before .before .price-list .ensures in
+    same-balance w listed (c .earned .ensures) (c .before .ceiling-of .ensures (priced-line w listed))
 
 pub balanced-spec : {M : Type 1} → statement M
-balanced-spec = tie.close (tie.spec tolls-requires tally-requires rent-requires add-result returns)
+balanced-spec = tie.close (tie.spec price-list-requires ceiling-of-requires earned-requires returns)

@@ -1,0 +1,39 @@
+-- The pass over the requests: what all of them, kept or not, have above the prices they cross. Each turn adds one term, and the sum stays small.
+-- Assumes nothing.
+use mathlib.Core.Path.{_≡_, refl}
+use mathlib.Core.List.{List}
+use Prim.Native.Nat.{ℕ, _+_, _*_, _-_, _≤_, _<_, min, max}
+use native.Mathlib.Omega.{arith}
+use Rattle.sums.specs.Sums.{Σ}
+use Rattle.sums.specs.Turns.{Σ-more}
+use Rattle.book.specs.Columns.{at}
+
+-- the tolls between the two ends of request i
+abbrev pub costAt : List ℕ → List ℕ → List ℕ → ℕ → ℕ
+costAt a b toll i = at toll (max (at a i) (at b i)) - at toll (min (at a i) (at b i))
+
+-- at most 256 requests between nodes, their profits within bounds, and tolls that do not fall
+pub record Tallies (count : ℕ) (a b profits toll : List ℕ) : Type 0 where
+  pub count-upto : count ≤ 256
+  pub a-upto : (i : ℕ) → i < count → at a i < 64
+  pub b-upto : (i : ℕ) → i < count → at b i < 64
+  pub profit-upto : (i : ℕ) → i < count → at profits i ≤ 1000000
+  pub rising : (i : ℕ) → i < count → at toll (min (at a i) (at b i)) ≤ at toll (max (at a i) (at b i))
+
+-- after i requests
+pub record Tallying (i : ℕ) (a b profits toll : List ℕ) (sum : ℕ) : Type 0 where
+  pub sum-is : sum ≡ Σ i (λ j. at profits j - costAt a b toll j)
+  pub small : sum ≤ 1000000 * i
+
+module _ {a b profits toll : List ℕ} where
+  pub tallying-none : Tallying 0 a b profits toll 0
+  unfolding Σ
+  tallying-none = record { sum-is = refl; small = omega arith }
+
+  pub tallying-more :
+      {i sum : ℕ} (gained cost : ℕ) → Tallying i a b profits toll sum → at profits i ≤ 1000000
+      → cost ≡ costAt a b toll i → gained ≡ at profits i - cost → Tallying (i + 1) a b profits toll (sum + gained)
+  tallying-more {i} gained cost was upto ec eg = record {
+    sum-is = omega (arith, was .sum-is, Σ-more i (λ j. at profits j - costAt a b toll j));
+    small = omega (arith, was .small);
+  }

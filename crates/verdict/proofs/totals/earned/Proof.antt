@@ -1,0 +1,78 @@
+-- `verdict::totals::earned` meets its contract: each turn adds one kept profit. Assumes nothing.
+use mathlib.Core.Path.{_≡_}
+use Prim.Native.Nat.{_-_, _≤_}
+use native.Mathlib.Omega.{arith}
+use borrow.Author.Needs.{needs}
+use Rattle.book.specs.Bytes.{entryIn}
+use Rattle.book.specs.Columns.{at}
+use Rattle.verdict.specs.Totals.{kept-upto, Earning, earning-none, earning-more}
+use Rattle.verdict.proofs.totals.earned.Statement.{statement}
+use Rattle.verdict.proofs.totals.earned.Tie as tie
+
+abbrev Inv-loop : tie.InvT-loop
+Inv-loop count profits entries sum₀ i₀ sum i = (i ≤ count) × Earning i profits (entryIn entries) sum
+
+abbrev μ-loop : tie.MeasureT-loop
+μ-loop count profits entries sum₀ i₀ sum i = count - i
+
+loop-holds : tie.Need-loop-holds Inv-loop μ-loop
+loop-holds c = (omega arith, earning-none)
+
+entry-at-requires : tie.Need-entry-at-requires Inv-loop μ-loop
+entry-at-requires c κs = omega arith
+
+mul-kept-profit : tie.Need-mul-kept-profit Inv-loop μ-loop
+mul-kept-profit c = omega arith
+
+element-copy-out-kept-profit : tie.Need-element-copy-out-kept-profit Inv-loop μ-loop
+element-copy-out-kept-profit c = omega arith
+
+kept-profit-requires : tie.Need-kept-profit-requires Inv-loop μ-loop
+kept-profit-requires c κs = search needs
+
+add-sum : tie.Need-add-sum Inv-loop μ-loop
+add-sum c =
+    let start = c .before .before .before .before .before .before in
+    let i = c .before .before .before .before .loop .i in
+    omega (
+      arith,
+      c .kept-profit .ensures,
+      kept-upto (at (start .args .profits .now) i) (c .before .before .entry-at .result),
+      start .pre .profit-upto i (omega arith),
+      start .pre .count-upto,
+    )
+
+add-i : tie.Need-add-i Inv-loop μ-loop
+add-i c = omega arith
+
+loop-less : tie.Need-loop-less Inv-loop μ-loop
+loop-less c = omega arith
+
+loop-again : tie.Need-loop-again Inv-loop μ-loop
+loop-again c =
+    let start = c .before .before .before .before .before .before in
+    let l = c .before .before .before .before .loop in
+    (omega arith, earning-more _ (l .inv .1) (start .pre .profit-upto (l .i) (omega arith)) (rw (c .before .before .entry-at .ensures) at (c .kept-profit .ensures)))
+
+returns : tie.Need-returns Inv-loop μ-loop
+returns c =
+    let l = c .before .loop in
+    let all : l .i ≡ c .before .before .before .args .count = omega arith in
+    rw all at (l .inv .1 .sum-is)
+
+pub earned-spec : {M : Type 1} → statement M
+earned-spec =
+    tie.close
+    (tie.spec
+    Inv-loop
+    μ-loop
+    loop-holds
+    entry-at-requires
+    mul-kept-profit
+    element-copy-out-kept-profit
+    kept-profit-requires
+    add-sum
+    add-i
+    loop-less
+    loop-again
+    returns)
