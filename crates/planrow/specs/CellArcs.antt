@@ -8,7 +8,7 @@ use native.Mathlib.Omega.{arith}
 use lib.ListN.{getD}
 use lib.IntN.{ℤ, pos}
 use Rattle.flow.specs.SearchSteps.{up-arc, down-arc, cell-idle, risen, risen-relaxed, bottom-done, cells-done}
-use Rattle.planrow.specs.State.{at, depth, groundIn, Ready, Relaxation, Lacks, Spreads, Nothing, UpDone, CellsDone}
+use Rattle.planrow.specs.State.{at, depth, groundIn, Ready, Marks, Relaxation, Lacks, Spreads, Nothing, UpDone, CellsDone}
 use Rattle.planrow.specs.Relaxed.{passing, relaxing}
 
 module _ {cells t : ℕ} {lo hi : List ℕ} {cost : List ℤ} {kept : List Bool} {room : List ℕ} {dist : List ℤ} (ready : Ready cells t lo hi cost kept room dist) where
@@ -29,14 +29,14 @@ module _ {cells t : ℕ} {lo hi : List ℕ} {cost : List ℤ} {kept : List Bool}
   pub rise-lacks : {u v : ℕ} → v ≡ suc u → v ≤ cells → Lacks (pos 0) (getD dist u (pos 0)) (getD dist v (pos 0))
   rise-lacks {u} q l = rw q (level-lacks (omega arith) (omega arith) (ready .deep .rises u (omega arith)))
 
-  pub rise-relaxed : {u v : ℕ} {label by from label′ by′ from′ : List ℕ} (len : ℕ) → v ≡ suc u → v ≤ cells → len + depth dist u ≡ depth dist v →
-      Relaxation label by from label′ by′ from′ v (at label u + len) u 256 →
-      Spreads (groundIn cells t lo hi cost kept room dist) Nothing UpDone u label by from label′ by′ from′
+  pub rise-relaxed : {most u v : ℕ} {m m′ : Marks} (len : ℕ) → v ≡ suc u → v ≤ cells → len + depth dist u ≡ depth dist v →
+      Relaxation most m m′ v (at (m .label) u + len) u 256 →
+      Spreads (groundIn cells t lo hi cost kept room dist) most Nothing UpDone u m m′
   rise-relaxed {u} {v} len q l long r =
-      relaxing len (ready .deep) (ready .proper) (r .label-in) (r .arc-in) (r .origin-in) r (up-arc len q l long) (λ arc less same n. n)
+      relaxing len (ready .deep) (ready .proper) l r (up-arc len q l long) (λ arc less same n. n)
       (λ d near n. risen q (λ i. cell-idle (groundIn cells t lo hi cost kept room dist) d u len v long near))
 
-  pub rise-top : {u : ℕ} {label by from : List ℕ} → cells ≤ u → Spreads (groundIn cells t lo hi cost kept room dist) Nothing UpDone u label by from label by from
+  pub rise-top : {most u : ℕ} {m : Marks} → cells ≤ u → Spreads (groundIn cells t lo hi cost kept room dist) most Nothing UpDone u m m
   rise-top h = passing (λ n. risen refl (λ l. absurd (omega arith)))
 
   -- ---- down
@@ -44,16 +44,16 @@ module _ {cells t : ℕ} {lo hi : List ℕ} {cost : List ℤ} {kept : List Bool}
   pub fall-lacks : {u v : ℕ} → u ≡ suc v → u ≤ cells → 0 < at room v → Lacks (pos 0) (getD dist u (pos 0)) (getD dist v (pos 0))
   fall-lacks {v = v} q l «open» = rw q (level-lacks (omega arith) (omega arith) (ready .deep .level v (omega arith) «open»))
 
-  pub fall-relaxed : {u v : ℕ} {label by from label′ by′ from′ : List ℕ} (len : ℕ) → u ≡ suc v → u ≤ cells → 0 < at room v → len + depth dist u ≡ depth dist v →
-      Relaxation label by from label′ by′ from′ v (at label u + len) u 257 →
-      Spreads (groundIn cells t lo hi cost kept room dist) UpDone CellsDone u label by from label′ by′ from′
+  pub fall-relaxed : {most u v : ℕ} {m m′ : Marks} (len : ℕ) → u ≡ suc v → u ≤ cells → 0 < at room v → len + depth dist u ≡ depth dist v →
+      Relaxation most m m′ v (at (m .label) u + len) u 257 →
+      Spreads (groundIn cells t lo hi cost kept room dist) most UpDone CellsDone u m m′
   fall-relaxed {u} {v} len q l «open» long r =
-      relaxing len (ready .deep) (ready .proper) (r .label-in) (r .arc-in) (r .origin-in) r (down-arc len q (omega arith) «open» long) (risen-relaxed (ready .proper) l)
+      relaxing len (ready .deep) (ready .proper) (omega arith) r (down-arc len q (omega arith) «open» long) (risen-relaxed (ready .proper) l)
       (λ d near up. cells-done up q (λ o. cell-idle (groundIn cells t lo hi cost kept room dist) d u len v long near))
 
-  pub fall-full : {u : ℕ} {label by from : List ℕ} (v : ℕ) → u ≡ suc v → at room v ≤ 0 →
-      Spreads (groundIn cells t lo hi cost kept room dist) UpDone CellsDone u label by from label by from
+  pub fall-full : {most u : ℕ} {m : Marks} (v : ℕ) → u ≡ suc v → at room v ≤ 0 →
+      Spreads (groundIn cells t lo hi cost kept room dist) most UpDone CellsDone u m m
   fall-full v q full = passing (λ up. cells-done up q (λ o. absurd (omega arith)))
 
-  pub fall-bottom : {u : ℕ} {label by from : List ℕ} → u ≡ 0 → Spreads (groundIn cells t lo hi cost kept room dist) UpDone CellsDone u label by from label by from
+  pub fall-bottom : {most u : ℕ} {m : Marks} → u ≡ 0 → Spreads (groundIn cells t lo hi cost kept room dist) most UpDone CellsDone u m m
   fall-bottom q = rw q (passing bottom-done)

@@ -12,7 +12,7 @@ use Rattle.signed.specs.Parts.{up, dn, Neg, neg}
 use Rattle.sums.specs.Each.{of-yes}
 use Rattle.flow.specs.Searching.{Ground, Spread}
 use Rattle.flow.specs.SearchSteps.{spread-relaxed, along-arc, back-arc, chain-step-along, chain-step-back}
-use Rattle.planrow.specs.State.{at, flag, depth, groundIn, Ready, Chained, Relaxation, Lacks, Spreads}
+use Rattle.planrow.specs.State.{at, flag, depth, groundIn, Ready, Chained, Marks, Relaxation, Lacks, Spreads}
 use Rattle.planrow.specs.Relaxed.{passing, relaxing}
 use Rattle.planrow.specs.Stages.{spreads-on}
 
@@ -26,10 +26,10 @@ abbrev pub KeptFrom : ℕ → Ground → ℕ → (ℕ → ℕ) → Type 0
 KeptFrom i g u d = Spread g d u 0 i
 
 -- u has followed its chain down to i: it has got from stage First to From i
-pub record Followed (g : Ground) (First : Ground → ℕ → (ℕ → ℕ) → Type 0) (From : ℕ → Ground → ℕ → (ℕ → ℕ) → Type 0) (ends : List ℕ) (u : ℕ) (label₀ by₀ from₀ label by from : List ℕ) (i : ℕ) : Type 0 where
+pub record Followed (g : Ground) (most : ℕ) (First : Ground → ℕ → (ℕ → ℕ) → Type 0) (From : ℕ → Ground → ℕ → (ℕ → ℕ) → Type 0) (ends : List ℕ) (u : ℕ) (m₀ m : Marks) (i : ℕ) : Type 0 where
   pub upto : i ≤ g .t
   pub here : (e : ℕ) → i ≡ suc e → at ends e ≡ u
-  pub spreads : Spreads g First (From i) u label₀ by₀ from₀ label by from
+  pub spreads : Spreads g most First (From i) u m₀ m
 
 -- no candidate in a gap of the chain has its end at u: `skip` says that the gap is done
 module _
@@ -40,7 +40,7 @@ module _
     {u : ℕ}
     (skip : (d : ℕ → ℕ) (i j : ℕ) → From i g u d → ((k : ℕ) → j ≤ k → k < i → k < g .t → at ends k ≡ u → ⊥) → From j g u d)
     (chain : Chained (g .row .cells) (g .t) ends head next) where
-  pub begun : {label by from : List ℕ} → u ≤ g .row .cells → ((d : ℕ → ℕ) → First g u d → From (g .t) g u d) → Followed g First From ends u label by from label by from (at head u)
+  pub begun : {most : ℕ} {m : Marks} → u ≤ g .row .cells → ((d : ℕ → ℕ) → First g u d → From (g .t) g u d) → Followed g most First From ends u m m (at head u)
   begun inside first = record {
     upto = chain .head-in u inside;
     here = λ e. chain .head-end u e inside;
@@ -48,8 +48,8 @@ module _
   }
 
   -- link e is done
-  pub followed : {label₀ by₀ from₀ label by from label′ by′ from′ : List ℕ} {i e : ℕ} → i ≡ suc e → Followed g First From ends u label₀ by₀ from₀ label by from i →
-      Spreads g (From (suc e)) (From e) u label by from label′ by′ from′ → Followed g First From ends u label₀ by₀ from₀ label′ by′ from′ (at next e)
+  pub followed : {most : ℕ} {m₀ m m′ : Marks} {i e : ℕ} → i ≡ suc e → Followed g most First From ends u m₀ m i →
+      Spreads g most (From (suc e)) (From e) u m m′ → Followed g most First From ends u m₀ m′ (at next e)
   followed {e = e} q f done = record {
     upto = omega (arith, chain .next-in e inside);
     here = λ k p. chain .next-end e k inside p ∙ f .here e q;
@@ -87,10 +87,10 @@ module _ {cost near far : ℤ} (k : Lacks cost near far) where
 one-side : {x : Bool} → x ≡ false → x ≡ true → ⊥
 one-side out stays = of-yes (sym out ∙ stays)
 
-pub along-none : {g : Ground} {u e : ℕ} {label by from : List ℕ} → g .x e ≡ true → Spreads g (DroppedFrom (suc e)) (DroppedFrom e) u label by from label by from
+pub along-none : {g : Ground} {most u e : ℕ} {m : Marks} → g .x e ≡ true → Spreads g most (DroppedFrom (suc e)) (DroppedFrom e) u m m
 along-none stays = passing (λ s. chain-step-along s (λ l out. absurd (one-side out stays)))
 
-pub back-none : {g : Ground} {u e : ℕ} {label by from : List ℕ} → g .x e ≡ false → Spreads g (KeptFrom (suc e)) (KeptFrom e) u label by from label by from
+pub back-none : {g : Ground} {most u e : ℕ} {m : Marks} → g .x e ≡ false → Spreads g most (KeptFrom (suc e)) (KeptFrom e) u m m
 back-none out = passing (λ s. chain-step-back s (λ l stays. absurd (one-side out stays)))
 
 module _
@@ -131,11 +131,11 @@ module _
       (omega (arith, turned is, ready .deep .paid e l stays, ap (depth dist) q, ready .costs .not-above e l))
 
   pub along-done :
-      {u : ℕ} {label by from label′ by′ from′ : List ℕ} (len : ℕ) → flag kept e ≡ false → at lo e ≡ u →
-      Long (getD cost e (pos 0)) (getD dist u (pos 0)) (getD dist (at hi e) (pos 0)) len → Relaxation label by from label′ by′ from′ (at hi e) (at label u + len) u e →
-      Spreads (groundIn cells t lo hi cost kept room dist) (DroppedFrom (suc e)) (DroppedFrom e) u label by from label′ by′ from′
+      {most u : ℕ} {m m′ : Marks} (len : ℕ) → flag kept e ≡ false → at lo e ≡ u →
+      Long (getD cost e (pos 0)) (getD dist u (pos 0)) (getD dist (at hi e) (pos 0)) len → Relaxation most m m′ (at hi e) (at (m .label) u + len) u e →
+      Spreads (groundIn cells t lo hi cost kept room dist) most (DroppedFrom (suc e)) (DroppedFrom e) u m m′
   along-done {u} len out q is r =
-      relaxing len (ready .deep) (ready .proper) (r .label-in) (r .arc-in) (r .origin-in) r (along-arc len l out (sym q) refl long)
+      relaxing len (ready .deep) (ready .proper) (omega (arith, two-ends)) r (along-arc len l out (sym q) refl long)
       (λ arc less same. spread-relaxed (ready .proper) (omega (arith, two-ends)) arc less same)
       (λ d near s. chain-step-along s (λ _ _ _. omega (arith, long)))
     where
@@ -143,11 +143,11 @@ module _
       long = omega (arith, measured (along-lacks out q) len is, ready .costs .not-above e l)
 
   pub back-done :
-      {u : ℕ} {z : ℤ} {label by from label′ by′ from′ : List ℕ} (len : ℕ) → z ≡ pos 0 -ℤ rd (getD cost e (pos 0)) → flag kept e ≡ true → at hi e ≡ u →
-      Long z (getD dist u (pos 0)) (getD dist (at lo e) (pos 0)) len → Relaxation label by from label′ by′ from′ (at lo e) (at label u + len) u e →
-      Spreads (groundIn cells t lo hi cost kept room dist) (KeptFrom (suc e)) (KeptFrom e) u label by from label′ by′ from′
+      {u : ℕ} {z : ℤ} {most : ℕ} {m m′ : Marks} (len : ℕ) → z ≡ pos 0 -ℤ rd (getD cost e (pos 0)) → flag kept e ≡ true → at hi e ≡ u →
+      Long z (getD dist u (pos 0)) (getD dist (at lo e) (pos 0)) len → Relaxation most m m′ (at lo e) (at (m .label) u + len) u e →
+      Spreads (groundIn cells t lo hi cost kept room dist) most (KeptFrom (suc e)) (KeptFrom e) u m m′
   back-done {u} len turn stays q is r =
-      relaxing len (ready .deep) (ready .proper) (r .label-in) (r .arc-in) (r .origin-in) r (back-arc len l stays (sym q) refl long)
+      relaxing len (ready .deep) (ready .proper) (omega (arith, two-ends)) r (back-arc len l stays (sym q) refl long)
       (λ arc less same. spread-relaxed (ready .proper) (omega (arith, two-ends)) arc less same)
       (λ d near s. chain-step-back s (λ _ _ _. omega (arith, long)))
     where

@@ -1,70 +1,37 @@
--- The open node with the least label, looked for from node 0 on. Among the nodes before v it is `best`, with label `least`; where none of them is
--- below `most`, `best` is past the last node and `least` is `most`. Each node either takes the place of best or changes nothing. Assumes nothing.
+-- The least label on a list, looked for from its end: among the nodes from place i on it is `least`, at place `best`. Each place either takes that of
+-- best or changes nothing, and a label that no other is below ends the search. Assumes nothing.
 use mathlib.Core.List.{List}
 use mathlib.Core.Logic.{⊎-elim}
-use mathlib.Core.Path.{_≡_, refl}
-use Prim.Native.Nat.{ℕ, suc, _+_, _≤_, _<_}
+use mathlib.Core.Path.{_≡_, refl, ap}
+use Prim.Native.Nat.{ℕ, suc, _-_, _≤_, _<_}
 use native.Mathlib.Omega.{arith}
 use Rattle.sums.specs.Each.{same-or-not}
-use Rattle.planrow.specs.State.{at, Nearest}
+use Rattle.planrow.specs.State.{at, CanChoose, Chosen}
 
-pub record LeastBefore (label rank : List ℕ) (cells most v best least : ℕ) : Type 0 where
-  pub reach : v ≤ suc cells
-  pub in-row : best ≤ suc cells
-  pub is-open : best ≤ cells → at rank best ≡ 0
-  pub label-is : best ≤ cells → at label best ≡ least
-  pub shorter : best ≤ cells → least < most
-  pub none : cells < best → least ≡ most
-  pub upto : least ≤ most
-  pub lowest : (w : ℕ) → w < v → at rank w ≡ 0 → least ≤ at label w
+pub record LeastFrom (label list : List ℕ) (size i best least : ℕ) : Type 0 where
+  pub reach : i ≤ best
+  pub inside : best < size
+  pub label-is : at label (at list best) ≡ least
+  pub lowest : (j : ℕ) → i ≤ j → j < size → least ≤ at label (at list j)
 
-module _ {label rank : List ℕ} {cells most : ℕ} where
-  pub least-none : LeastBefore label rank cells most 0 (cells + 1) most
-  least-none = record {
-    reach = omega arith;
-    in-row = omega arith;
-    is-open = λ h. absurd (omega arith);
-    label-is = λ h. absurd (omega arith);
-    shorter = λ h. absurd (omega arith);
-    none = λ h. refl;
-    upto = omega arith;
-    lowest = λ w l. absurd (omega arith);
-  }
+module _ {label list : List ℕ} {size : ℕ} where
+  pub least-last : 0 < size → LeastFrom label list size (size - 1) (size - 1) (at label (at list (size - 1)))
+  least-last some = record { reach = omega arith; inside = omega arith; label-is = refl; lowest = λ j h l. let q : j ≡ size - 1 = omega arith in rw q (omega arith) }
 
-  pub least-found : {v best least : ℕ} → LeastBefore label rank cells most v best least → cells < v → Nearest label rank cells most best
-  least-found l past = record {
-    in-row = l .in-row;
-    is-open = l .is-open;
-    shorter = λ h. omega (arith, l .label-is h, l .shorter h);
-    least = λ h w i z. omega (arith, l .label-is h, l .lowest w (omega arith) z);
-    none-left = λ h w i z. omega (arith, l .none (omega arith), l .lowest w (omega arith) z);
-  }
+  module _ {i best least : ℕ} (l : LeastFrom label list size i best least) where
+    pub least-all : i ≤ 0 → Chosen label list size best
+    least-all done = record { inside = l .inside; least = λ j h. omega (arith, l .label-is, l .lowest j (omega arith) h) }
 
-  module _ {v best least : ℕ} (l : LeastBefore label rank cells most v best least) (inside : v ≤ cells) where
-    -- what holds of the nodes before v and of v holds of those before v + 1
-    one-more : {m : ℕ} → m ≤ least → (at rank v ≡ 0 → m ≤ at label v) → (w : ℕ) → w < v + 1 → at rank w ≡ 0 → m ≤ at label w
-    one-more lower here w h z = ⊎-elim (λ q. rw q (here (rw q at z))) (λ n. omega (arith, l .lowest w (omega arith) z)) (same-or-not w v)
+    pub least-floor : {floor : ℕ} → CanChoose label list size floor → least ≡ floor → Chosen label list size best
+    least-floor can q = record { inside = l .inside; least = λ j h. omega (arith, l .label-is, can .above j h) }
 
-    pub least-taken : at rank v ≡ 0 → at label v < least → LeastBefore label rank cells most (v + 1) v (at label v)
-    least-taken fresh less = record {
-      reach = omega arith;
-      in-row = omega arith;
-      is-open = λ h. fresh;
-      label-is = λ h. refl;
-      shorter = λ h. omega (arith, l .upto);
-      none = λ h. absurd (omega arith);
-      upto = omega (arith, l .upto);
-      lowest = one-more (omega arith) (λ z. omega arith);
-    }
+    module _ (more : 0 < i) where
+      -- what holds of the places from i on and of the one before holds from that one on
+      one-more : {n : ℕ} → n ≤ least → n ≤ at label (at list (i - 1)) → (j : ℕ) → i - 1 ≤ j → j < size → n ≤ at label (at list j)
+      one-more lower here j h k = ⊎-elim (λ (q : j ≡ i - 1). rw q here) (λ n. omega (arith, l .lowest j (omega arith) k)) (same-or-not j (i - 1))
 
-    pub least-stays : (at rank v ≡ 0 → least ≤ at label v) → LeastBefore label rank cells most (v + 1) best least
-    least-stays here = record {
-      reach = omega arith;
-      in-row = l .in-row;
-      is-open = l .is-open;
-      label-is = l .label-is;
-      shorter = l .shorter;
-      none = l .none;
-      upto = l .upto;
-      lowest = one-more (omega arith) here;
-    }
+      pub least-taken : at label (at list (i - 1)) < least → LeastFrom label list size (i - 1) (i - 1) (at label (at list (i - 1)))
+      least-taken less = record { reach = omega arith; inside = omega (arith, l .reach, l .inside); label-is = refl; lowest = one-more (omega arith) (omega arith) }
+
+      pub least-stays : least ≤ at label (at list (i - 1)) → LeastFrom label list size (i - 1) best least
+      least-stays far = record { reach = omega (arith, l .reach); inside = l .inside; label-is = l .label-is; lowest = one-more (omega arith) far }

@@ -1,17 +1,51 @@
 -- A call of `relax` is one step of the search, whatever the kind of the arc. Where the way along it is shorter, the label at its end is lowered
--- and no other; where it is not, all stays; and after both that label is no longer than the way. Assumes nothing.
+-- and no other, and that node is on the list; where it is not, all stays; and after both that label is no longer than the way. Assumes nothing.
 use mathlib.Core.List.{List}
 use mathlib.Core.Logic.{⊎-elim}
-use mathlib.Core.Path.{_≡_, ap}
-use Prim.Native.Nat.{ℕ, _+_, _≤_, _<_}
+use mathlib.Core.Path.{_≡_, refl, ap}
+use Prim.Native.Nat.{ℕ, suc, _+_, _≤_, _<_}
 use native.Mathlib.Omega.{arith}
 use lib.ListN.{length, set}
 use lib.Seq.{getD-set-same, getD-set-other}
 use Rattle.sums.specs.Each.{less-or-not}
 use Rattle.flow.specs.Balanced.{Proper}
-use Rattle.flow.specs.Searching.{Ground, Came}
+use Rattle.flow.specs.Searching.{Ground, Came, Labels}
 use Rattle.flow.specs.SearchSteps.{DeepAt, relaxed, passed}
-use Rattle.planrow.specs.State.{at, Relaxation, Spreads}
+use Rattle.planrow.specs.State.{at, Marks, marks, Listed, Relaxation, Spreads}
+use Rattle.planrow.specs.OpenList.{listed-room, listed-lower, listed-push}
+
+-- ---- the ways through `relax`
+
+module _ {most v way u arc : ℕ} {label by from list : List ℕ} {size : ℕ} (labels : v < length label) (arcs : v < length by) (origins : v < length from) where
+  pub relax-stays : at label v ≤ way → Relaxation most (marks label by from list size) (marks label by from list size) v way u arc
+  relax-stays far = record {
+    label-in = labels;
+    arc-in = arcs;
+    origin-in = origins;
+    stays = λ h. refl;
+    label-lower = λ h. absurd (omega arith);
+    by-lower = λ h. absurd (omega arith);
+    from-lower = λ h. absurd (omega arith);
+    again = λ h. absurd (omega arith);
+    first = λ h. absurd (omega arith);
+  }
+
+  pub relax-lowers : {list′ : List ℕ} {size′ : ℕ} → way < at label v → (at label v < most → (list′ ≡ list) × (size′ ≡ size)) →
+      (most ≤ at label v → size < 128 → (list′ ≡ set list size v) × (size′ ≡ suc size)) →
+      Relaxation most (marks label by from list size) (marks (set label v way) (set by v arc) (set from v u) list′ size′) v way u arc
+  relax-lowers less again first = record {
+    label-in = labels;
+    arc-in = arcs;
+    origin-in = origins;
+    stays = λ h. absurd (omega arith);
+    label-lower = λ h. refl;
+    by-lower = λ h. refl;
+    from-lower = λ h. refl;
+    again = λ h. again;
+    first = λ h. first;
+  }
+
+-- ---- a step of the search
 
 -- an array with entry v set to a
 record Set (xs xs′ : List ℕ) (v a : ℕ) : Type 0 where
@@ -22,52 +56,64 @@ is-set : (xs : List ℕ) {xs′ : List ℕ} (v a : ℕ) → xs′ ≡ set xs v a
 is-set xs v a e l = rw e (record { here = getD-set-same xs v a 0 l; elsewhere = λ w n. getD-set-other xs v w a 0 n })
 
 -- no arc: u gets from one stage to the next with the labels as they are
-pub passing : {g : Ground} {Now Then : Ground → ℕ → (ℕ → ℕ) → Type 0} {u : ℕ} {label by from : List ℕ} → (Now g u (at label) → Then g u (at label)) →
-    Spreads g Now Then u label by from label by from
-passing step = record { on = λ b most rank clock s. passed s (step (s .part)); no-longer = omega arith }
+pub passing : {g : Ground} {most : ℕ} {Now Then : Ground → ℕ → (ℕ → ℕ) → Type 0} {u : ℕ} {m : Marks} → (Now g u (at (m .label)) → Then g u (at (m .label))) → Spreads g most Now Then u m m
+passing step = record { on = λ b rank clock s. (passed (s .0) (step (s .0 .part)), s .1); no-longer = omega arith }
 
 -- Arc e from u to v, of length len. A label of that way came by it; what u has done stays done where v is lowered; and where the label of v is no
 -- longer than the way, u gets from one stage to the next.
 pub relaxing :
-    {g : Ground} {Now Then : Ground → ℕ → (ℕ → ℕ) → Type 0} {u v e : ℕ} {label by from label′ by′ from′ : List ℕ} (len : ℕ) →
-    DeepAt g → Proper (g .row) (g .t) → v < length label → v < length by → v < length from →
-    Relaxation label by from label′ by′ from′ v (at label u + len) u e →
-    (at label′ u ≡ at label u → at label′ v ≡ at label u + len → Came g (at label′) e u v) →
-    (Came g (at label′) e u v → at label′ v < at label v → ((w : ℕ) → w ≤ g .row .cells → (w ≡ v → ⊥) → at label′ w ≡ at label w) → Now g u (at label) → Now g u (at label′)) →
+    {g : Ground} {most : ℕ} {Now Then : Ground → ℕ → (ℕ → ℕ) → Type 0} {u v e : ℕ} {m m′ : Marks} (len : ℕ) →
+    DeepAt g → Proper (g .row) (g .t) → v ≤ g .row .cells →
+    Relaxation most m m′ v (at (m .label) u + len) u e →
+    (at (m′ .label) u ≡ at (m .label) u → at (m′ .label) v ≡ at (m .label) u + len → Came g (at (m′ .label)) e u v) →
+    (Came g (at (m′ .label)) e u v → at (m′ .label) v < at (m .label) v → ((w : ℕ) → w ≤ g .row .cells → (w ≡ v → ⊥) → at (m′ .label) w ≡ at (m .label) w) → Now g u (at (m .label)) → Now g u (at (m′ .label))) →
     ((d : ℕ → ℕ) → d v ≤ d u + len → Now g u d → Then g u d) →
-    Spreads g Now Then u label by from label′ by′ from′
-relaxing {g} {Now} {Then} {u} {v} {e} {label} {by} {from} {label′} {by′} {from′} len deep proper in-label in-by in-from r came keeps step =
-    ⊎-elim lower stay (less-or-not (at label u + len) (at label v))
+    Spreads g most Now Then u m m′
+relaxing {g} {most} {Now} {Then} {u} {v} {e} {m} {m′} len deep proper inside r came keeps step = ⊎-elim lower stay (less-or-not (at (m .label) u + len) (at (m .label) v))
   where
-    stay : at label v ≤ at label u + len → Spreads g Now Then u label by from label′ by′ from′
-    stay h = rw (r .label-stays h, r .by-stays h, r .from-stays h) (passing (step (at label) h))
+    stay : at (m .label) v ≤ at (m .label) u + len → Spreads g most Now Then u m m′
+    stay h = rw (r .stays h) (passing (step (at (m .label)) h))
 
-    lower : at label u + len < at label v → Spreads g Now Then u label by from label′ by′ from′
+    lower : at (m .label) u + len < at (m .label) v → Spreads g most Now Then u m m′
     lower h = record {
-      on = λ b most rank clock s.
-          relaxed deep proper s arc less same (by-set .here) (from-set .here) (λ w i. by-set .elsewhere w) (λ w i. from-set .elsewhere w)
-          (step (at label′) (omega (arith, label-set .here, u-same)) (keeps arc less same (s .part)));
+      on = λ b rank clock s. (
+        relaxed deep proper (s .0) arc less same (by-set .here) (from-set .here) (λ w i. by-set .elsewhere w) (λ w i. from-set .elsewhere w)
+            (step (at (m′ .label)) (omega (arith, label-set .here, u-same)) (keeps arc less same (s .0 .part))),
+        ⊎-elim (again (s .1)) (first (s .0 .labels) (s .1)) (less-or-not (at (m .label) v) most),
+      );
       no-longer = omega (arith, u-same);
     }
       where
-        label-set : Set label label′ v (at label u + len)
-        label-set = is-set label v (at label u + len) (r .label-lower h) in-label
+        label-set : Set (m .label) (m′ .label) v (at (m .label) u + len)
+        label-set = is-set (m .label) v (at (m .label) u + len) (r .label-lower h) (r .label-in)
 
-        by-set : Set by by′ v e
-        by-set = is-set by v e (r .by-lower h) in-by
+        by-set : Set (m .by) (m′ .by) v e
+        by-set = is-set (m .by) v e (r .by-lower h) (r .arc-in)
 
-        from-set : Set from from′ v u
-        from-set = is-set from v u (r .from-lower h) in-from
+        from-set : Set (m .from) (m′ .from) v u
+        from-set = is-set (m .from) v u (r .from-lower h) (r .origin-in)
 
-        same : (w : ℕ) → w ≤ g .row .cells → (w ≡ v → ⊥) → at label′ w ≡ at label w
+        same : (w : ℕ) → w ≤ g .row .cells → (w ≡ v → ⊥) → at (m′ .label) w ≡ at (m .label) w
         same w i = label-set .elsewhere w
 
         -- a way from u is no shorter than the label of u, so v is not u
-        u-same : at label′ u ≡ at label u
-        u-same = label-set .elsewhere u (λ q. omega (arith, ap (at label) q))
+        u-same : at (m′ .label) u ≡ at (m .label) u
+        u-same = label-set .elsewhere u (λ q. omega (arith, ap (at (m .label)) q))
 
-        arc : Came g (at label′) e u v
+        arc : Came g (at (m′ .label)) e u v
         arc = came u-same (label-set .here)
 
-        less : at label′ v < at label v
+        less : at (m′ .label) v < at (m .label) v
         less = omega (arith, label-set .here)
+
+        -- the list: v is on it, or goes on it, being no settled node
+        again : {rank : ℕ → ℕ} → Listed (g .row .cells) most (at (m .label)) rank (m .list) (m .size) → at (m .label) v < most →
+            Listed (g .row .cells) most (at (m′ .label)) rank (m′ .list) (m′ .size)
+        again l k = let e = r .again h k in rw (e .0, e .1) (listed-lower l less same k)
+
+        first : {b clock : ℕ} {rank by from : ℕ → ℕ} → Labels g b most (at (m .label)) rank by from clock → Listed (g .row .cells) most (at (m .label)) rank (m .list) (m .size) →
+            most ≤ at (m .label) v → Listed (g .row .cells) most (at (m′ .label)) rank (m′ .list) (m′ .size)
+        first {rank = rank} a l k =
+            let e = r .first h k (listed-room l inside k) in
+            rw (e .0, e .1)
+            (listed-push l less same inside k (⊎-elim (λ (p : 0 < rank v). absurd (omega (arith, a .below v inside p))) (λ z. omega arith) (less-or-not 0 (rank v))) (omega (arith, less, a .upto v inside)))

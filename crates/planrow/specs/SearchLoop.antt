@@ -1,72 +1,119 @@
 -- The search's loop. Between two turns a is still open, and the clock and the nodes still open come to one count: each turn settles one node and moves
--- the clock by one, so the loop ends. A turn finds no open node nearer than `most`, or settles a, or settles another node, which spreads.
--- Assumes nothing.
+-- the clock by one, so the loop ends. A turn finds the list empty, that is, no open node nearer than `most`, or settles a, or settles another node,
+-- which spreads. Assumes nothing.
 use mathlib.Core.Bool.{true, false}
 use mathlib.Core.List.{List}
-use mathlib.Core.Path.{_≡_, sym, _∙_}
-use Prim.Native.Nat.{ℕ, suc, _+_, _≤_, _<_}
+use mathlib.Core.Logic.{⊎-elim}
+use mathlib.Core.Path.{_≡_, sym, ap, _∙_}
+use Prim.Native.Nat.{ℕ, suc, _+_, _-_, _≤_, _<_}
 use native.Mathlib.Numerals.{add-one}
 use native.Mathlib.Omega.{arith}
 use lib.ListN.{length, set, length-set}
 use lib.Seq.{getD-set-same, getD-set-other}
-use Rattle.sums.specs.Each.{of-yes}
+use Rattle.sums.specs.Each.{of-yes, less-or-not}
 use Rattle.flow.specs.Balanced.{Proper}
 use Rattle.flow.specs.Searching.{Ground, Searching}
 use Rattle.flow.specs.SearchSteps.{DeepAt, search-start, settle, spread-done}
 use Rattle.flow.specs.Ends.{reached, unreached}
-use Rattle.planrow.specs.State.{at, Nearest, Spreads, Nothing, AllDone, Fresh, Searched}
+use Rattle.planrow.specs.State.{at, Marks, marks, Listed, CanChoose, Chosen, Underway, Spreads, Nothing, AllDone, Fresh, Searched}
+use Rattle.planrow.specs.OpenList.{listed-start, listed-upto, listed-take}
 use Rattle.planrow.specs.OpenNodes.{openNodes, open-all, open-less}
 
 -- ---- between two turns
 
-pub record Looking (g : Ground) (a b most : ℕ) (label rank by from : List ℕ) (clock : ℕ) : Type 0 where
-  pub searching : Searching g b most (at label) (at rank) (at by) (at from) clock
+pub record Looking (g : Ground) (a b most : ℕ) (rank : List ℕ) (m : Marks) (floor clock : ℕ) : Type 0 where
+  pub searching : Searching g b most (at (m .label)) (at rank) (at (m .by)) (at (m .from)) clock
+  pub listed : Listed (g .row .cells) most (at (m .label)) (at rank) (m .list) (m .size)
+  pub above : (w : ℕ) → w ≤ g .row .cells → at rank w ≡ 0 → floor ≤ at (m .label) w
   pub still : at rank a ≡ 0
-  pub small : g .row .cells ≤ 127
   pub count : clock + openNodes (g .row .cells) rank ≡ g .row .cells + 2
   pub ranks : length rank ≡ 128
 
-pub look : {g : Ground} {a b most : ℕ} {label rank by from : List ℕ} →
-    g .row .cells ≤ 127 → a ≤ g .row .cells → length rank ≡ 128 → Fresh (g .row .cells) b most label rank → Looking g a b most label rank by from 1
-look {g} {a} {rank = rank} small node ranks f = record {
+pub look : {g : Ground} {a b most : ℕ} {label rank by from list : List ℕ} →
+    g .row .cells ≤ 127 → a ≤ g .row .cells → b ≤ g .row .cells → 0 < most → length rank ≡ 128 → length list ≡ 128 → at list 0 ≡ b →
+    Fresh (g .row .cells) b most label rank → Looking g a b most rank (marks label by from list 1) 0 1
+look {g} {a} {b} {rank = rank} small a-in b-in some ranks long head f = record {
   searching = search-start (f .root) (f .others) (f .still);
-  still = f .still a node;
-  small = small;
+  listed = listed-start small long head b-in (f .still b b-in) (omega (arith, f .root)) (f .others);
+  above = λ w i z. omega arith;
+  still = f .still a a-in;
   count = omega (arith, open-all (g .row .cells) rank (f .still));
   ranks = ranks;
 }
 
 -- ---- a turn
 
-module _ {g : Ground} {a b most clock u : ℕ} {label rank by from : List ℕ} (l : Looking g a b most label rank by from clock) (near : Nearest label rank (g .row .cells) most u) where
-  pub look-lost : DeepAt g → Proper (g .row) (g .t) → a ≤ g .row .cells → g .row .cells < u → Searched g a b most label rank by from false
-  look-lost deep proper node past = record {
-    reached = λ e. absurd (of-yes e);
-    unreached = λ e. unreached deep proper (l .searching) node (l .still) (near .none-left (omega (arith, near .in-row)));
+module _ {g : Ground} {a b most floor clock : ℕ} {rank : List ℕ} {m : Marks} (l : Looking g a b most rank m floor clock) where
+  pub look-lost : DeepAt g → Proper (g .row) (g .t) → a ≤ g .row .cells → m .size ≡ 0 → Searched g a b most (m .label) rank (m .by) (m .from) false
+  look-lost deep proper node none = record { reached = λ e. absurd (of-yes e); unreached = λ e. unreached deep proper (l .searching) node (l .still) far }
+    where
+      far : (w : ℕ) → w ≤ g .row .cells → at rank w ≡ 0 → most ≤ at (m .label) w
+      far w i z = ⊎-elim (λ h. let k = l .listed .all w i z h in absurd (omega (arith, k .1))) (λ h. h) (less-or-not (at (m .label) w) most)
+
+  pub look-can : (m .size ≡ 0 → ⊥) → CanChoose (m .label) (m .list) (m .size) floor
+  look-can some = record {
+    some = omega arith;
+    upto = listed-upto (l .listed);
+    node = λ i h. omega (arith, l .listed .node i h, l .listed .small);
+    above = λ i h. l .above (at (m .list) i) (l .listed .node i h) (l .listed .waits i h);
   }
 
-  -- u is settled
-  module _ (inside : u ≤ g .row .cells) where
+  -- the node u at place i is settled
+  module _ {i : ℕ} (c : Chosen (m .label) (m .list) (m .size) i) where
+    abbrev u : ℕ
+    u = at (m .list) i
+
+    pub look-place : (i < m .size) × (m .size ≤ 128)
+    look-place = (c .inside, listed-upto (l .listed))
+
+    pub look-node : u ≤ g .row .cells
+    look-node = l .listed .node i (c .inside)
+
+    fresh : at rank u ≡ 0
+    fresh = l .listed .waits i (c .inside)
+
+    pub look-near : at (m .label) u < most
+    look-near = l .listed .near i (c .inside)
+
+    -- an open node that is not on the list is no nearer than most
+    least : (w : ℕ) → w ≤ g .row .cells → at rank w ≡ 0 → at (m .label) u ≤ at (m .label) w
+    least w j z =
+        ⊎-elim
+        (λ h. let k = l .listed .all w j z h in omega (arith, c .least (k .0) (k .1), ap (at (m .label)) (k .2)))
+        (λ h. omega (arith, look-near))
+        (less-or-not (at (m .label) w) most)
+
     here : at (set rank u clock) u ≡ clock
-    here = getD-set-same rank u clock 0 (omega (arith, l .small, l .ranks))
+    here = getD-set-same rank u clock 0 (omega (arith, look-node, l .listed .small, l .ranks))
 
     there : (w : ℕ) → (w ≡ u → ⊥) → at (set rank u clock) w ≡ at rank w
     there w n = getD-set-other rank u w clock 0 n
 
-    pub look-found : DeepAt g → Proper (g .row) (g .t) → u ≡ a → Searched g a b most label (set rank u clock) by from true
+    pub look-found : DeepAt g → Proper (g .row) (g .t) → u ≡ a → Searched g a b most (m .label) (set rank u clock) (m .by) (m .from) true
     look-found deep proper q = record {
-      reached = λ e. rw (← q) (reached deep proper (l .searching) inside (near .is-open inside) (near .shorter inside) (near .least inside) here (λ w i. there w));
+      reached = λ e. rw (← q) (reached deep proper (l .searching) look-node fresh look-near least here (λ w i. there w));
       unreached = λ e. absurd (of-yes (sym e));
     }
 
-    pub look-on : {label′ by′ from′ : List ℕ} → (u ≡ a → ⊥) → Spreads g Nothing AllDone u label by from label′ by′ from′ →
-        Looking g a b most label′ (set rank u clock) by′ from′ (clock + 1)
-    look-on n s = record {
-      searching =
-          rw add-one
-          (spread-done (s .on b most (at (set rank u clock)) (suc clock) (settle (l .searching) inside (near .is-open inside) (near .shorter inside) (near .least inside) here (λ w i. there w))));
+    pub look-on : {m′ : Marks} → (u ≡ a → ⊥) →
+        Spreads g most Nothing AllDone u (marks (m .label) (m .by) (m .from) (set (m .list) i (at (m .list) (m .size - 1))) (m .size - 1)) m′ →
+        Looking g a b most (set rank u clock) m′ (at (m′ .label) u) (clock + 1)
+    look-on {m′} n s = record {
+      searching = rw add-one done;
+      listed = spread .1;
+      above = λ w j z. done .labels .near u w look-node j ticked z;
       still = there a (λ q. n (sym q)) ∙ l .still;
-      small = l .small;
-      count = omega (arith, l .count, open-less (g .row .cells) rank u clock inside (omega (arith, l .small, l .ranks)) (near .is-open inside) (l .searching .labels .ticks));
+      count = omega (arith, l .count, open-less (g .row .cells) rank u clock look-node (omega (arith, look-node, l .listed .small, l .ranks)) fresh (l .searching .labels .ticks));
       ranks = length-set rank u clock ∙ l .ranks;
     }
+      where
+        ticked : 0 < at (set rank u clock) u
+        ticked = omega (arith, here, l .searching .labels .ticks)
+
+        spread : Underway g b most (at (set rank u clock)) (suc clock) u (AllDone g u) m′
+        spread =
+            s .on b (at (set rank u clock)) (suc clock)
+            (settle (l .searching) look-node fresh look-near least here (λ w i. there w), listed-take (l .listed) (c .inside) ticked (λ w j. there w))
+
+        done : Searching g b most (at (m′ .label)) (at (set rank u clock)) (at (m′ .by)) (at (m′ .from)) (suc clock)
+        done = spread-done (spread .0)

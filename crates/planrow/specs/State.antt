@@ -65,25 +65,50 @@ pub record Chained (cells t : ℕ) (ends head next : List ℕ) : Type 0 where
 
 -- ---- what the functions promise
 
--- r is the open node (rank 0) with the least label, or past the last node where no open node has a label below most
-pub record Nearest (label rank : List ℕ) (cells most r : ℕ) : Type 0 where
-  pub in-row : r ≤ suc cells
-  pub is-open : r ≤ cells → at rank r ≡ 0
-  pub shorter : r ≤ cells → at label r < most
-  pub least : r ≤ cells → (w : ℕ) → w ≤ cells → at rank w ≡ 0 → at label r ≤ at label w
-  pub none-left : r ≡ suc cells → (w : ℕ) → w ≤ cells → at rank w ≡ 0 → most ≤ at label w
+-- what a search has written so far: each node's label, with its arc and its origin, and the list, of `size` nodes
+pub record Marks : Type 0 where
+  pub label : List ℕ
+  pub by : List ℕ
+  pub from : List ℕ
+  pub list : List ℕ
+  pub size : ℕ
 
--- v is a place of each array, and is given the shorter label `way`, with its arc and its origin, or all stays
-pub record Relaxation (label by from label′ by′ from′ : List ℕ) (v way u arc : ℕ) : Type 0 where
-  pub label-in : v < length label
-  pub arc-in : v < length by
-  pub origin-in : v < length from
-  pub label-lower : way < at label v → label′ ≡ set label v way
-  pub by-lower : way < at label v → by′ ≡ set by v arc
-  pub from-lower : way < at label v → from′ ≡ set from v u
-  pub label-stays : at label v ≤ way → label′ ≡ label
-  pub by-stays : at label v ≤ way → by′ ≡ by
-  pub from-stays : at label v ≤ way → from′ ≡ from
+abbrev pub marks : List ℕ → List ℕ → List ℕ → List ℕ → ℕ → Marks
+marks label by from list size = record { label = label; by = by; from = from; list = list; size = size }
+
+-- the list has, each once, the open nodes (rank 0) with a label below most
+pub record Listed (cells most : ℕ) (d rank : ℕ → ℕ) (list : List ℕ) (size : ℕ) : Type 0 where
+  pub small : cells ≤ 127
+  pub long : length list ≡ 128
+  pub node : (i : ℕ) → i < size → at list i ≤ cells
+  pub waits : (i : ℕ) → i < size → rank (at list i) ≡ 0
+  pub near : (i : ℕ) → i < size → d (at list i) < most
+  pub once : (i j : ℕ) → i < size → j < size → at list i ≡ at list j → i ≡ j
+  pub all : (v : ℕ) → v ≤ cells → rank v ≡ 0 → d v < most → (i : ℕ) × (i < size) × (at list i ≡ v)
+
+-- one of a list of nodes can be chosen: there is one, and no label is below `floor`
+pub record CanChoose (label list : List ℕ) (size floor : ℕ) : Type 0 where
+  pub some : 0 < size
+  pub upto : size ≤ 128
+  pub node : (i : ℕ) → i < size → at list i ≤ 127
+  pub above : (i : ℕ) → i < size → floor ≤ at label (at list i)
+
+-- place r of the list has a node with the least label
+pub record Chosen (label list : List ℕ) (size r : ℕ) : Type 0 where
+  pub inside : r < size
+  pub least : (i : ℕ) → i < size → at label (at list r) ≤ at label (at list i)
+
+-- v is a place of each array, and is given the shorter label `way`, with its arc and its origin, or all stays; a first label puts v on the list
+pub record Relaxation (most : ℕ) (m m′ : Marks) (v way u arc : ℕ) : Type 0 where
+  pub label-in : v < length (m .label)
+  pub arc-in : v < length (m .by)
+  pub origin-in : v < length (m .from)
+  pub stays : at (m .label) v ≤ way → m′ ≡ m
+  pub label-lower : way < at (m .label) v → m′ .label ≡ set (m .label) v way
+  pub by-lower : way < at (m .label) v → m′ .by ≡ set (m .by) v arc
+  pub from-lower : way < at (m .label) v → m′ .from ≡ set (m .from) v u
+  pub again : way < at (m .label) v → at (m .label) v < most → (m′ .list ≡ m .list) × (m′ .size ≡ m .size)
+  pub first : way < at (m .label) v → most ≤ at (m .label) v → m .size < 128 → (m′ .list ≡ set (m .list) (m .size) v) × (m′ .size ≡ suc (m .size))
 
 -- ---- how far a node has spread
 
@@ -102,10 +127,15 @@ DroppedDone g u d = Spread g d u 0 (g .t)
 abbrev pub AllDone : Ground → ℕ → (ℕ → ℕ) → Type 0
 AllDone g u d = Spread g d u 0 0
 
+-- a search in which u is spreading, with its list
+abbrev pub Underway : Ground → ℕ → ℕ → (ℕ → ℕ) → ℕ → ℕ → ((ℕ → ℕ) → Type 0) → Marks → Type 0
+Underway g b most rank clock u Part m =
+    Spreading g b most (at (m .label)) rank (at (m .by)) (at (m .from)) clock u Part × Listed (g .row .cells) most (at (m .label)) rank (m .list) (m .size)
+
 -- in whatever search u is spreading, it gets from one stage to the next; its own label grows no longer
-pub record Spreads (g : Ground) (Now Then : Ground → ℕ → (ℕ → ℕ) → Type 0) (u : ℕ) (label by from label′ by′ from′ : List ℕ) : Type 0 where
-  pub on : (b most : ℕ) (rank : ℕ → ℕ) (clock : ℕ) → Spreading g b most (at label) rank (at by) (at from) clock u (Now g u) → Spreading g b most (at label′) rank (at by′) (at from′) clock u (Then g u)
-  pub no-longer : at label′ u ≤ at label u
+pub record Spreads (g : Ground) (most : ℕ) (Now Then : Ground → ℕ → (ℕ → ℕ) → Type 0) (u : ℕ) (m m′ : Marks) : Type 0 where
+  pub on : (b : ℕ) (rank : ℕ → ℕ) (clock : ℕ) → Underway g b most rank clock u (Now g u) m → Underway g b most rank clock u (Then g u) m′
+  pub no-longer : at (m′ .label) u ≤ at (m .label) u
 
 -- an arc of this cost, from a node at distance `near` to one at distance `far`, cannot lower the far end
 pub record Lacks (cost near far : ℤ) : Type 0 where

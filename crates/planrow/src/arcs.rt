@@ -1,10 +1,11 @@
 // The arcs out of a node that has been settled, and the labels that they shorten. Every function here is lent the whole ground of the search, so
 // that one record says what it is.
 ghost use mathlib.Core.Path.{_≡_};
-ghost use Prim.Native.Nat.{_+_, _≤_, _<_};
+ghost use Prim.Native.Nat.{suc, _+_, _≤_, _<_};
+ghost use lib.ListN.{set};
 ghost use lib.IntN.{pos, _-ℤ_};
 ghost use Rattle.signed.specs.Parts.{up, dn};
-ghost use Rattle.planrow.specs.State.{at, groundIn, Ready, Chained, Relaxation, Lacks, Spreads, Nothing, UpDone, CellsDone, DroppedDone, AllDone};
+ghost use Rattle.planrow.specs.State.{at, groundIn, Ready, Chained, marks, Relaxation, Lacks, Spreads, Nothing, UpDone, CellsDone, DroppedDone, AllDone};
 
 // What an arc of this cost lacks to lower its far end: never below 0.
 pub fn length_left(cost: i64, near: i64, far: i64) -> usize
@@ -22,28 +23,50 @@ pub fn reversed(cost: i64) -> i64
     -cost
 }
 
-// Gives node v the label `way`, by `arc` from u, where that is shorter.
+// Puts node v at the end of the list of `size` nodes. Answers how many there are then; the list is never full, and no caller has to know that.
+pub fn enlist(list: &mut [usize; 128], size: usize, v: usize) -> usize
+    ensures { λ r. ⌜ (size < 128 → (now (list .exit) ≡ set (now (list .entry)) size v) × (r ≡ suc size)) ⌝ }
+{
+    // a slice of an array behind a reference tells how many places it has
+    let places = &list[..];
+    if size < 128 {
+        list[size] = v;
+        return size + 1;
+    }
+    size
+}
+
+// Gives node v the label `way`, by `arc` from u, where that is shorter. Its first label puts v on the list; answers how many nodes are there.
 pub fn relax(
+    most: usize,
     label: &mut [usize; 128],
     by: &mut [usize; 128],
     from: &mut [usize; 128],
+    list: &mut [usize; 128],
+    size: usize,
     v: usize,
     way: usize,
     u: usize,
     arc: usize,
-)
+) -> usize
     requires { ⌜ v < 128 ⌝ }
-    ensures { λ r. ⌜ Relaxation (now (label .entry)) (now (by .entry)) (now (from .entry)) (now (label .exit)) (now (by .exit)) (now (from .exit)) v way u arc ⌝ }
+    ensures { λ r. ⌜ Relaxation most (marks (now (label .entry)) (now (by .entry)) (now (from .entry)) (now (list .entry)) size) (marks (now (label .exit)) (now (by .exit)) (now (from .exit)) (now (list .exit)) r) v way u arc ⌝ }
 {
     // a slice of an array behind a reference tells how many places it has
     let labels = &label[..];
     let arcs = &by[..];
     let origins = &from[..];
-    if way < label[v] {
-        label[v] = way;
-        by[v] = arc;
-        from[v] = u;
+    let old = label[v];
+    if old <= way {
+        return size;
     }
+    label[v] = way;
+    by[v] = arc;
+    from[v] = u;
+    if old < most {
+        return size;
+    }
+    enlist(list, size, v)
 }
 
 // The arc up the cell above u: it is always open.
@@ -56,19 +79,23 @@ pub fn rise(
     kept: &[bool; 256],
     room: &[usize; 128],
     dist: &[i64; 128],
+    most: usize,
     label: &mut [usize; 128],
     by: &mut [usize; 128],
     from: &mut [usize; 128],
+    list: &mut [usize; 128],
+    size: usize,
     u: usize,
-)
+) -> usize
     requires { ⌜ Ready cells t (now lo) (now hi) (now cost) (now kept) (now room) (now dist) ⌝ }
     requires { ⌜ (u ≤ cells) × (at (now label) u ≤ 1000000) ⌝ }
-    ensures { λ r. ⌜ Spreads (groundIn cells t (now (lo .entry)) (now (hi .entry)) (now (cost .entry)) (now (kept .entry)) (now (room .entry)) (now (dist .entry))) Nothing UpDone u (now (label .entry)) (now (by .entry)) (now (from .entry)) (now (label .exit)) (now (by .exit)) (now (from .exit)) ⌝ }
+    ensures { λ r. ⌜ Spreads (groundIn cells t (now (lo .entry)) (now (hi .entry)) (now (cost .entry)) (now (kept .entry)) (now (room .entry)) (now (dist .entry))) most Nothing UpDone u (marks (now (label .entry)) (now (by .entry)) (now (from .entry)) (now (list .entry)) size) (marks (now (label .exit)) (now (by .exit)) (now (from .exit)) (now (list .exit)) r) ⌝ }
 {
     if u < cells {
         let way = label[u] + length_left(0, dist[u], dist[u + 1]);
-        relax(label, by, from, u + 1, way, u, 256);
+        return relax(most, label, by, from, list, size, u + 1, way, u, 256);
     }
+    size
 }
 
 // The arc down the cell below u: it is open where that cell has room.
@@ -81,22 +108,26 @@ pub fn fall(
     kept: &[bool; 256],
     room: &[usize; 128],
     dist: &[i64; 128],
+    most: usize,
     label: &mut [usize; 128],
     by: &mut [usize; 128],
     from: &mut [usize; 128],
+    list: &mut [usize; 128],
+    size: usize,
     u: usize,
-)
+) -> usize
     requires { ⌜ Ready cells t (now lo) (now hi) (now cost) (now kept) (now room) (now dist) ⌝ }
     requires { ⌜ (u ≤ cells) × (at (now label) u ≤ 1000000) ⌝ }
-    ensures { λ r. ⌜ Spreads (groundIn cells t (now (lo .entry)) (now (hi .entry)) (now (cost .entry)) (now (kept .entry)) (now (room .entry)) (now (dist .entry))) UpDone CellsDone u (now (label .entry)) (now (by .entry)) (now (from .entry)) (now (label .exit)) (now (by .exit)) (now (from .exit)) ⌝ }
+    ensures { λ r. ⌜ Spreads (groundIn cells t (now (lo .entry)) (now (hi .entry)) (now (cost .entry)) (now (kept .entry)) (now (room .entry)) (now (dist .entry))) most UpDone CellsDone u (marks (now (label .entry)) (now (by .entry)) (now (from .entry)) (now (list .entry)) size) (marks (now (label .exit)) (now (by .exit)) (now (from .exit)) (now (list .exit)) r) ⌝ }
 {
     if u == 0 {
-        return;
+        return size;
     }
     if 0 < room[u - 1] {
         let way = label[u] + length_left(0, dist[u], dist[u - 1]);
-        relax(label, by, from, u - 1, way, u, 257);
+        return relax(most, label, by, from, list, size, u - 1, way, u, 257);
     }
+    size
 }
 
 // The arcs along the dropped candidates that begin at u.
@@ -111,26 +142,31 @@ pub fn spread_dropped(
     dist: &[i64; 128],
     head: &[usize; 128],
     next: &[usize; 256],
+    most: usize,
     label: &mut [usize; 128],
     by: &mut [usize; 128],
     from: &mut [usize; 128],
+    list: &mut [usize; 128],
+    size: usize,
     u: usize,
-)
+) -> usize
     requires { ⌜ Ready cells t (now lo) (now hi) (now cost) (now kept) (now room) (now dist) ⌝ }
     requires { ⌜ (u ≤ cells) × (at (now label) u ≤ 1000000) ⌝ }
     requires { ⌜ Chained cells t (now lo) (now head) (now next) ⌝ }
-    ensures { λ r. ⌜ Spreads (groundIn cells t (now (lo .entry)) (now (hi .entry)) (now (cost .entry)) (now (kept .entry)) (now (room .entry)) (now (dist .entry))) CellsDone DroppedDone u (now (label .entry)) (now (by .entry)) (now (from .entry)) (now (label .exit)) (now (by .exit)) (now (from .exit)) ⌝ }
+    ensures { λ r. ⌜ Spreads (groundIn cells t (now (lo .entry)) (now (hi .entry)) (now (cost .entry)) (now (kept .entry)) (now (room .entry)) (now (dist .entry))) most CellsDone DroppedDone u (marks (now (label .entry)) (now (by .entry)) (now (from .entry)) (now (list .entry)) size) (marks (now (label .exit)) (now (by .exit)) (now (from .exit)) (now (list .exit)) r) ⌝ }
 {
+    let mut n = size;
     let mut i = head[u];
     while 0 < i {
         let e = i - 1;
         if !kept[e] {
             let v = hi[e];
             let way = label[u] + length_left(cost[e], dist[u], dist[v]);
-            relax(label, by, from, v, way, u, e);
+            n = relax(most, label, by, from, list, n, v, way, u, e);
         }
         i = next[e];
     }
+    n
 }
 
 // The arcs back along the kept candidates that end at u.
@@ -145,24 +181,29 @@ pub fn spread_kept(
     dist: &[i64; 128],
     head: &[usize; 128],
     next: &[usize; 256],
+    most: usize,
     label: &mut [usize; 128],
     by: &mut [usize; 128],
     from: &mut [usize; 128],
+    list: &mut [usize; 128],
+    size: usize,
     u: usize,
-)
+) -> usize
     requires { ⌜ Ready cells t (now lo) (now hi) (now cost) (now kept) (now room) (now dist) ⌝ }
     requires { ⌜ (u ≤ cells) × (at (now label) u ≤ 1000000) ⌝ }
     requires { ⌜ Chained cells t (now hi) (now head) (now next) ⌝ }
-    ensures { λ r. ⌜ Spreads (groundIn cells t (now (lo .entry)) (now (hi .entry)) (now (cost .entry)) (now (kept .entry)) (now (room .entry)) (now (dist .entry))) DroppedDone AllDone u (now (label .entry)) (now (by .entry)) (now (from .entry)) (now (label .exit)) (now (by .exit)) (now (from .exit)) ⌝ }
+    ensures { λ r. ⌜ Spreads (groundIn cells t (now (lo .entry)) (now (hi .entry)) (now (cost .entry)) (now (kept .entry)) (now (room .entry)) (now (dist .entry))) most DroppedDone AllDone u (marks (now (label .entry)) (now (by .entry)) (now (from .entry)) (now (list .entry)) size) (marks (now (label .exit)) (now (by .exit)) (now (from .exit)) (now (list .exit)) r) ⌝ }
 {
+    let mut n = size;
     let mut i = head[u];
     while 0 < i {
         let e = i - 1;
         if kept[e] {
             let v = lo[e];
             let way = label[u] + length_left(reversed(cost[e]), dist[u], dist[v]);
-            relax(label, by, from, v, way, u, e);
+            n = relax(most, label, by, from, list, n, v, way, u, e);
         }
         i = next[e];
     }
+    n
 }

@@ -1,25 +1,27 @@
 // The search from node b for node a, nearest node first.
 ghost use mathlib.Core.Path.{_≡_};
 ghost use Prim.Native.Nat.{_≤_, _<_};
-ghost use Rattle.planrow.specs.State.{at, groundIn, Ready, Chained, Nearest, Searched, Fresh, Spreads, Nothing, AllDone};
+ghost use Rattle.planrow.specs.State.{at, groundIn, Ready, Chained, CanChoose, Chosen, Searched, Fresh, marks, Spreads, Nothing, AllDone};
 use crate::arcs;
 
-// The open node with the least label, or cells + 1 where no open node has a label below `most`.
-pub fn nearest(label: &[usize; 128], rank: &[usize; 128], cells: usize, most: usize) -> usize
-    requires { ⌜ cells ≤ 127 ⌝ }
-    ensures { λ r. ⌜ Nearest (now (label .entry)) (now (rank .entry)) cells most r ⌝ }
+// Where on the list a node with the least label is: looked for from the end, and no further than a label that is as low as any can be.
+pub fn nearest(label: &[usize; 128], list: &[usize; 128], size: usize, floor: usize) -> usize
+    requires { ⌜ CanChoose (now label) (now list) size floor ⌝ }
+    ensures { λ r. ⌜ Chosen (now (label .entry)) (now (list .entry)) size r ⌝ }
 {
-    let mut best = cells + 1;
-    let mut least = most;
-    let mut v = 0;
-    while v <= cells {
-        if rank[v] == 0 {
-            if label[v] < least {
-                best = v;
-                least = label[v];
-            }
+    let mut best = size - 1;
+    let mut least = label[list[best]];
+    let mut i = best;
+    while 0 < i {
+        if least == floor {
+            return best;
         }
-        v += 1;
+        i -= 1;
+        let far = label[list[i]];
+        if far < least {
+            best = i;
+            least = far;
+        }
     }
     best
 }
@@ -55,20 +57,55 @@ pub fn spread(
     next_lo: &[usize; 256],
     head_hi: &[usize; 128],
     next_hi: &[usize; 256],
+    most: usize,
     label: &mut [usize; 128],
     by: &mut [usize; 128],
     from: &mut [usize; 128],
+    list: &mut [usize; 128],
+    size: usize,
     u: usize,
-)
+) -> usize
     requires { ⌜ Ready cells t (now lo) (now hi) (now cost) (now kept) (now room) (now dist) ⌝ }
     requires { ⌜ (u ≤ cells) × (at (now label) u ≤ 1000000) ⌝ }
     requires { ⌜ Chained cells t (now lo) (now «head_lo») (now «next_lo») ⌝ }
     requires { ⌜ Chained cells t (now hi) (now «head_hi») (now «next_hi») ⌝ }
-    ensures { λ r. ⌜ Spreads (groundIn cells t (now (lo .entry)) (now (hi .entry)) (now (cost .entry)) (now (kept .entry)) (now (room .entry)) (now (dist .entry))) Nothing AllDone u (now (label .entry)) (now (by .entry)) (now (from .entry)) (now (label .exit)) (now (by .exit)) (now (from .exit)) ⌝ }
+    ensures { λ r. ⌜ Spreads (groundIn cells t (now (lo .entry)) (now (hi .entry)) (now (cost .entry)) (now (kept .entry)) (now (room .entry)) (now (dist .entry))) most Nothing AllDone u (marks (now (label .entry)) (now (by .entry)) (now (from .entry)) (now (list .entry)) size) (marks (now (label .exit)) (now (by .exit)) (now (from .exit)) (now (list .exit)) r) ⌝ }
 {
-    arcs::rise(cells, t, lo, hi, cost, kept, room, dist, label, by, from, u);
-    arcs::fall(cells, t, lo, hi, cost, kept, room, dist, label, by, from, u);
-    arcs::spread_dropped(
+    let risen = arcs::rise(
+        cells,
+        t,
+        lo,
+        hi,
+        cost,
+        kept,
+        room,
+        dist,
+        most,
+        label,
+        by,
+        from,
+        list,
+        size,
+        u,
+    );
+    let fallen = arcs::fall(
+        cells,
+        t,
+        lo,
+        hi,
+        cost,
+        kept,
+        room,
+        dist,
+        most,
+        label,
+        by,
+        from,
+        list,
+        risen,
+        u,
+    );
+    let along = arcs::spread_dropped(
         cells,
         t,
         lo,
@@ -79,9 +116,12 @@ pub fn spread(
         dist,
         head_lo,
         next_lo,
+        most,
         label,
         by,
         from,
+        list,
+        fallen,
         u,
     );
     arcs::spread_kept(
@@ -95,11 +135,14 @@ pub fn spread(
         dist,
         head_hi,
         next_hi,
+        most,
         label,
         by,
         from,
+        list,
+        along,
         u,
-    );
+    )
 }
 
 // Searches for a way from b to a that is shorter than `most`. True where there is one: then by and from lead back from a to b.
@@ -127,23 +170,32 @@ pub fn search(
     requires { ⌜ Ready cells t (now lo) (now hi) (now cost) (now kept) (now room) (now dist) ⌝ }
     requires { ⌜ Chained cells t (now lo) (now «head_lo») (now «next_lo») ⌝ }
     requires { ⌜ Chained cells t (now hi) (now «head_hi») (now «next_hi») ⌝ }
-    requires { ⌜ (a ≤ cells) × (b ≤ cells) × (most ≤ 1000000) ⌝ }
+    requires { ⌜ (a ≤ cells) × (b ≤ cells) × (0 < most) × (most ≤ 1000000) ⌝ }
     ensures { λ r. ⌜ Searched (groundIn cells t (now (lo .entry)) (now (hi .entry)) (now (cost .entry)) (now (kept .entry)) (now (room .entry)) (now (dist .entry))) a b most (now (label .exit)) (now (rank .exit)) (now (by .exit)) (now (from .exit)) r ⌝ }
 {
     start(cells, b, most, label, rank);
     // how many places rank has, as `start` left it
     let ranks = &rank[..];
+    // the nodes that have a label and are not settled
+    let mut list = [0usize; 128];
+    list[0] = b;
+    let mut size = 1;
+    // the label of the last node settled
+    let mut floor = 0;
     let mut clock = 1;
     loop {
-        let u = nearest(label, rank, cells, most);
-        if cells < u {
+        if size == 0 {
             return false;
         }
+        let i = nearest(label, &list, size, floor);
+        let u = list[i];
+        size -= 1;
+        list[i] = list[size];
         rank[u] = clock;
         if u == a {
             return true;
         }
-        spread(
+        size = spread(
             cells,
             t,
             lo,
@@ -156,11 +208,15 @@ pub fn search(
             next_lo,
             head_hi,
             next_hi,
+            most,
             label,
             by,
             from,
+            &mut list,
+            size,
             u,
         );
+        floor = label[u];
         clock += 1;
     }
 }

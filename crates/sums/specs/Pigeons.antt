@@ -7,8 +7,8 @@ use Prim.Native.Nat.{ℕ, zero, suc, _+_, _≤_, _<_}
 use native.Mathlib.Omega.{arith}
 use borrow.Author.Tests.{eqb-true, eq-eqb, ne-eqb}
 use lib.Dec.{eqb}
-use Rattle.sums.specs.Each.{both, decided}
-use Rattle.sums.specs.Sums.{Σ, bit, when-yes, when-no, Σ-le, Σ-zero, Σ-swap, Σ-part}
+use Rattle.sums.specs.Each.{first, first-is, both, decided}
+use Rattle.sums.specs.Sums.{Σ, bit, when-yes, when-no, Σ-le, Σ-zero, Σ-swap, Σ-part, Σ-most}
 
 -- a sum of at least 1 each
 pub Σ-least : (n : ℕ) (f : ℕ → ℕ) → ((i : ℕ) → i < n → 1 ≤ f i) → n ≤ Σ n f
@@ -50,3 +50,26 @@ holders m k p g h =
 
     held : (c : ℕ) → (j : ℕ) × (j < m) × (p j ≡ true) × (g j ≡ suc c) → 1 ≤ Σ m (λ j. pair j c)
     held c w = omega (arith, when-yes (p w.0 && eqb (g w.0) (suc c)) 1 (both _ _ w.2 (eq-eqb _ _ w.3)), Σ-part m (λ j. pair j c) w.0 w.1)
+
+-- n numbers below m, no two of them the same: place i + 1 is held by number f i
+pub distinct : (n m : ℕ) (f : ℕ → ℕ) → ((i : ℕ) → i < n → f i < m) → ((i j : ℕ) → i < n → j < n → f i ≡ f j → i ≡ j) → n ≤ m
+distinct n m f below once-each = omega (arith, holders m n (λ j. true) place held, Σ-most m (λ j. bit true) 1 (λ j l. omega arith))
+  where
+    place : ℕ → ℕ
+    place v = suc (first n (λ i. eqb (f i) v))
+
+    found : (i : ℕ) → i < n → place (f i) ≡ suc i
+    found i l =
+        omega (
+          arith,
+          first-is n (λ j. eqb (f j) (f i)) i (record {
+            from = omega arith;
+            upto = omega arith;
+            passed = λ j h k. ne-eqb (f j) (f i) (λ q. omega (arith, once-each j i (omega arith) l q));
+            passes = λ k. eq-eqb (f i) (f i) refl;
+          }),
+        )
+
+    held : (c : ℕ) → 1 ≤ c → c ≤ n → (j : ℕ) × (j < m) × (true ≡ true) × (place j ≡ c)
+    held zero h k = absurd (omega arith)
+    held (suc i) h k = (f i, below i k, refl, found i k)

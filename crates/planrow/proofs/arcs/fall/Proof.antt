@@ -68,7 +68,7 @@ relax-requires c κs = search needs
 
 returns-2 : tie.Need-returns-2
 returns-2 c =
-    let l = c .before .before .before .before in
+    let l = c .before .before .before .before .before in
     fall-relaxed (l .before .before .before .before .before .before .before .pre .0) (l .length-left .result) (omega arith) (omega arith) (omega arith) (long l) (c .relax .ensures)
 
 returns-3 : tie.Need-returns-3

@@ -1,15 +1,20 @@
--- Either the three entries of v are set or nothing is: the test says which. The slices tell that each array has its 128 places. Assumes nothing.
+-- The label of v stays, or its three entries are set; in that case the old label says whether v goes on the list. The slices tell that each array
+-- has its 128 places. Assumes nothing.
 use mathlib.Core.Path.{refl}
 use native.Mathlib.Omega.{arith}
 use borrow.Author.Needs.{needs}
+use Rattle.planrow.specs.Relaxed.{relax-stays, relax-lowers}
 use Rattle.planrow.proofs.arcs.relax.Statement.{statement}
 use Rattle.planrow.proofs.arcs.relax.Tie as tie
 
-mul-if1 : tie.Need-mul-if1
-mul-if1 c = search needs
+mul-old : tie.Need-mul-old
+mul-old c = search needs
 
-element-copy-out-if1 : tie.Need-element-copy-out-if1
-element-copy-out-if1 c = search needs
+element-copy-out-old : tie.Need-element-copy-out-old
+element-copy-out-old c = search needs
+
+returns : tie.Need-returns
+returns c = relax-stays (omega arith) (omega arith) (omega arith) (c .if1 .taken)
 
 mul-label : tie.Need-mul-label
 mul-label c = search needs
@@ -29,43 +34,28 @@ mul-from c = search needs
 element-write-from : tie.Need-element-write-from
 element-write-from c = search needs
 
-returns : tie.Need-returns
-returns c = record {
-  label-in = omega arith;
-  arc-in = omega arith;
-  origin-in = omega arith;
-  label-lower = λ h. refl;
-  by-lower = λ h. refl;
-  from-lower = λ h. refl;
-  label-stays = λ h. absurd (omega arith);
-  by-stays = λ h. absurd (omega arith);
-  from-stays = λ h. absurd (omega arith);
-}
-
 returns-2 : tie.Need-returns-2
-returns-2 c = record {
-  label-in = omega arith;
-  arc-in = omega arith;
-  origin-in = omega arith;
-  label-lower = λ h. absurd (omega arith);
-  by-lower = λ h. absurd (omega arith);
-  from-lower = λ h. absurd (omega arith);
-  label-stays = λ h. refl;
-  by-stays = λ h. refl;
-  from-stays = λ h. refl;
-}
+returns-2 c = relax-lowers (omega arith) (omega arith) (omega arith) (c .before .if1 .left) (λ h. (refl, refl)) (λ h. absurd (omega arith))
+
+enlist-requires : tie.Need-enlist-requires
+enlist-requires c κs = search needs
+
+returns-3 : tie.Need-returns-3
+returns-3 c = relax-lowers (omega arith) (omega arith) (omega arith) (c .before .before .before .if1 .left) (λ h. absurd (omega arith)) (λ h. c .enlist .ensures)
 
 pub relax-spec : {M : Type 1} → statement M
 relax-spec =
     tie.close
     (tie.spec
-    mul-if1
-    element-copy-out-if1
+    mul-old
+    element-copy-out-old
+    returns
     mul-label
     element-write-label
     mul-by
     element-write-by
     mul-from
     element-write-from
-    returns
-    returns-2)
+    returns-2
+    enlist-requires
+    returns-3)

@@ -56,7 +56,7 @@ relax-requires c κs = search needs
 
 returns : tie.Need-returns
 returns c =
-    let l = c .before .before .before .before in
+    let l = c .before .before .before .before .before in
     rise-relaxed (l .before .before .before .before .before .pre .0) (l .length-left .result) (omega arith) (omega arith) (long l) (c .relax .ensures)
 
 returns-2 : tie.Need-returns-2

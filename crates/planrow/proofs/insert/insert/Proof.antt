@@ -109,7 +109,7 @@ returns-2 c w = dropped-unasked w (long (sliced (c .before))) (omega (arith, gai
 
 search-requires : tie.Need-search-requires
 search-requires c κs =
-    let g = c .before .before .before .before .before .before .before .before in let p = entry g .pre in (ready p, (p .by-lo, (p .by-hi, (first-in p, inside p, gain-small g))))
+    let g = c .before .before .before .before .before .before .before .before in let p = entry g .pre in (ready p, (p .by-lo, (p .by-hi, (first-in p, inside p, omega (arith, c .before .before .before .before .before .before .before .if2 .left), gain-small g))))
 
 mul-near : tie.Need-mul-near
 mul-near c = omega (arith, first-node (entry (gained (c .before))))

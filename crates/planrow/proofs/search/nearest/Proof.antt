@@ -1,35 +1,20 @@
--- `planrow::search::nearest` meets its contract. The loop's invariant: best is the open node with the least label among those before v.
+-- `planrow::search::nearest` meets its contract. The loop's invariant: best is the place of the least label among those from i on. The measure is i.
 -- Assumes nothing.
-use mathlib.Core.Logic.{⊎-elim}
-use Prim.Native.Nat.{suc, _-_}
+use Prim.Native.Nat.{_-_, _≤_}
 use native.Mathlib.Omega.{arith}
-use Rattle.planrow.specs.Least.{LeastBefore, least-none, least-taken, least-stays, least-found}
+use Rattle.planrow.specs.State.{at}
+use Rattle.planrow.specs.Least.{LeastFrom, least-last, least-all, least-floor, least-taken, least-stays}
 use Rattle.planrow.proofs.search.nearest.Statement.{statement}
 use Rattle.planrow.proofs.search.nearest.Tie as tie
 
 abbrev Inv-loop : tie.InvT-loop
-Inv-loop label rank cells most best₀ least₀ v₀ best least v = LeastBefore label rank cells most v best least
+Inv-loop label list size floor best₀ least₀ i₀ best least i = LeastFrom label list size i best least
 
 abbrev μ-loop : tie.MeasureT-loop
-μ-loop label rank cells most best₀ least₀ v₀ best least v = suc cells - v
+μ-loop label list size floor best₀ least₀ i₀ best least i = i
 
-add-best : tie.Need-add-best Inv-loop μ-loop
-add-best c = omega arith
-
-loop-holds : tie.Need-loop-holds Inv-loop μ-loop
-loop-holds c = least-none
-
-mul-if1 : tie.Need-mul-if1 Inv-loop μ-loop
-mul-if1 c = omega arith
-
-element-copy-out-if1 : tie.Need-element-copy-out-if1 Inv-loop μ-loop
-element-copy-out-if1 c = omega arith
-
-mul-if2 : tie.Need-mul-if2 Inv-loop μ-loop
-mul-if2 c = omega arith
-
-element-copy-out-if2 : tie.Need-element-copy-out-if2 Inv-loop μ-loop
-element-copy-out-if2 c = omega arith
+sub-best : tie.Need-sub-best Inv-loop μ-loop
+sub-best c = omega arith
 
 mul-least : tie.Need-mul-least Inv-loop μ-loop
 mul-least c = omega arith
@@ -37,23 +22,51 @@ mul-least c = omega arith
 element-copy-out-least : tie.Need-element-copy-out-least Inv-loop μ-loop
 element-copy-out-least c = omega arith
 
-add-v : tie.Need-add-v Inv-loop μ-loop
-add-v c = omega arith
+mul-least-2 : tie.Need-mul-least-2 Inv-loop μ-loop
+mul-least-2 c = let s = c .before in omega (arith, s .pre .node (s .args .size - 1) (omega arith))
+
+element-copy-out-least-2 : tie.Need-element-copy-out-least-2 Inv-loop μ-loop
+element-copy-out-least-2 c = let s = c .before in omega (arith, s .pre .node (s .args .size - 1) (omega arith))
+
+loop-holds : tie.Need-loop-holds Inv-loop μ-loop
+loop-holds c = least-last (c .before .before .pre .some)
+
+returns : tie.Need-returns Inv-loop μ-loop
+returns c = let l = c .before .before in least-floor (l .loop .inv) (l .before .before .before .pre) (c .if1 .taken)
+
+sub-i : tie.Need-sub-i Inv-loop μ-loop
+sub-i c = omega arith
+
+mul-far : tie.Need-mul-far Inv-loop μ-loop
+mul-far c = omega arith
+
+element-copy-out-far : tie.Need-element-copy-out-far Inv-loop μ-loop
+element-copy-out-far c = omega arith
+
+-- the node at the place before
+node-in : (c : tie.After-far Inv-loop μ-loop) → let l = c .before .before .before in at (l .before .before .before .args .list .now) (l .loop .i - 1) ≤ 127
+node-in c = let l = c .before .before .before in l .before .before .before .pre .node (l .loop .i - 1) (omega arith)
+
+mul-far-2 : tie.Need-mul-far-2 Inv-loop μ-loop
+mul-far-2 c = omega (arith, node-in c)
+
+element-copy-out-far-2 : tie.Need-element-copy-out-far-2 Inv-loop μ-loop
+element-copy-out-far-2 c = omega (arith, node-in c)
 
 loop-less : tie.Need-loop-less Inv-loop μ-loop
 loop-less c = omega arith
 
 loop-again : tie.Need-loop-again Inv-loop μ-loop
-loop-again c =
-    let l = c .before .before .before .loop .inv in
-    let i = c .before .before .loop-test .taken in
-    ⊎-elim
-    (λ w. rw (w .4, w .5) (least-taken l i (w .0 .taken) (w .2 .taken)))
-    (⊎-elim (λ w. rw (w .3, w .4) (least-stays l i (λ z. w .2 .left))) (λ w. rw (w .1, w .2) (least-stays l i (λ z. absurd (w .0 .left z)))))
-    (c .if1 .came)
+loop-again c = let t = c .before .before .before .before in least-taken (t .before .loop .inv) (t .loop-test .taken) (c .if2 .taken)
 
-returns : tie.Need-returns Inv-loop μ-loop
-returns c = least-found (c .before .loop .inv) (c .loop-test .left)
+loop-less-2 : tie.Need-loop-less-2 Inv-loop μ-loop
+loop-less-2 c = omega arith
+
+loop-again-2 : tie.Need-loop-again-2 Inv-loop μ-loop
+loop-again-2 c = let t = c .before .before .before .before in least-stays (t .before .loop .inv) (t .loop-test .taken) (c .if2 .left)
+
+returns-2 : tie.Need-returns-2 Inv-loop μ-loop
+returns-2 c = least-all (c .before .loop .inv) (omega arith)
 
 pub nearest-spec : {M : Type 1} → statement M
 nearest-spec =
@@ -61,15 +74,20 @@ nearest-spec =
     (tie.spec
     Inv-loop
     μ-loop
-    add-best
-    loop-holds
-    mul-if1
-    element-copy-out-if1
-    mul-if2
-    element-copy-out-if2
+    sub-best
     mul-least
     element-copy-out-least
-    add-v
+    mul-least-2
+    element-copy-out-least-2
+    loop-holds
+    returns
+    sub-i
+    mul-far
+    element-copy-out-far
+    mul-far-2
+    element-copy-out-far-2
     loop-less
     loop-again
-    returns)
+    loop-less-2
+    loop-again-2
+    returns-2)

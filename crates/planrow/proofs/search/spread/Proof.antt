@@ -7,29 +7,29 @@ use Rattle.planrow.proofs.search.spread.Tie as tie
 
 rise-requires : tie.Need-rise-requires
 rise-requires c κs =
-    let p = c .before .before .before .pre in
+    let p = c .before .before .before .before .pre in
     (p .0, p .1 .0)
 
 fall-requires : tie.Need-fall-requires
 fall-requires c κs =
-    let p = c .before .before .before .before .before .before .before .pre in
+    let p = c .before .before .before .before .before .before .before .before .before .pre in
     (p .0, (p .1 .0 .0, omega arith))
 
 spread-dropped-requires : tie.Need-spread-dropped-requires
 spread-dropped-requires c κs =
-    let p = c .before .before .before .before .before .before .before .before .before .before .before .pre in
+    let p = c .before .before .before .before .before .before .before .before .before .before .before .before .before .before .pre in
     (p .0, ((p .1 .0 .0, omega arith), p .1 .1 .0))
 
 spread-kept-requires : tie.Need-spread-kept-requires
 spread-kept-requires c κs =
-    let p = c .before .before .before .before .before .before .before .before .before .before .before .before .before .before .before .pre in
+    let p = c .before .before .before .before .before .before .before .before .before .before .before .before .before .before .before .before .before .before .before .pre in
     (p .0, ((p .1 .0 .0, omega arith), p .1 .1 .1))
 
 returns : tie.Need-returns
 returns c =
-    let d = c .before .before .before .before in
-    let f = d .before .before .before .before in
-    let e = f .before .before .before .before in
+    let d = c .before .before .before .before .before in
+    let f = d .before .before .before .before .before in
+    let e = f .before .before .before .before .before in
     spreads-on (spreads-on (spreads-on (e .rise .ensures) (f .fall .ensures)) (d .spread-dropped .ensures)) (c .spread-kept .ensures)
 
 pub spread-spec : {M : Type 1} → statement M
