@@ -3,12 +3,12 @@
 use mathlib.Core.Bool.{Bool}
 use mathlib.Core.List.{List}
 use mathlib.Core.Path.{_≡_, refl}
-use Prim.Native.Nat.{ℕ, suc, _+_, _≤_, _<_}
+use Prim.Native.Nat.{ℕ, suc, _≤_, _<_}
 use native.Mathlib.Omega.{arith}
 use lib.ListN.{getD}
 use lib.IntN.{ℤ, pos}
 use Rattle.flow.specs.SearchSteps.{up-arc, down-arc, cell-idle, risen, risen-relaxed, bottom-done, cells-done}
-use Rattle.planrow.specs.State.{at, depth, groundIn, Ready, Marks, Relaxation, Lacks, Spreads, Nothing, UpDone, CellsDone}
+use Rattle.planrow.specs.State.{at, depth, groundIn, Ready, Marks, Lacks, Tried, Spreads, Nothing, UpDone, CellsDone}
 use Rattle.planrow.specs.Relaxed.{passing, relaxing}
 
 module _ {cells t : ℕ} {lo hi : List ℕ} {cost : List ℤ} {kept : List Bool} {room : List ℕ} {dist : List ℤ} (ready : Ready cells t lo hi cost kept room dist) where
@@ -29,12 +29,12 @@ module _ {cells t : ℕ} {lo hi : List ℕ} {cost : List ℤ} {kept : List Bool}
   pub rise-lacks : {u v : ℕ} → v ≡ suc u → v ≤ cells → Lacks (pos 0) (getD dist u (pos 0)) (getD dist v (pos 0))
   rise-lacks {u} q l = rw q (level-lacks (omega arith) (omega arith) (ready .deep .rises u (omega arith)))
 
-  pub rise-relaxed : {most u v : ℕ} {m m′ : Marks} (len : ℕ) → v ≡ suc u → v ≤ cells → len + depth dist u ≡ depth dist v →
-      Relaxation most m m′ v (at (m .label) u + len) u 256 →
+  pub rise-relaxed : {most u v : ℕ} {m m′ : Marks} → v ≡ suc u → v ≤ cells →
+      Tried most (pos 0) (getD dist u (pos 0)) (getD dist v (pos 0)) m m′ u v 256 →
       Spreads (groundIn cells t lo hi cost kept room dist) most Nothing UpDone u m m′
-  rise-relaxed {u} {v} len q l long r =
-      relaxing len (ready .deep) (ready .proper) l r (up-arc len q l long) (λ arc less same n. n)
-      (λ d near n. risen q (λ i. cell-idle (groundIn cells t lo hi cost kept room dist) d u len v long near))
+  rise-relaxed {u = u} {v} q l r =
+      relaxing (r .len) (ready .deep) (ready .proper) l (r .relaxation) (up-arc (r .len) q l (omega (arith, r .long))) (λ arc less same n. n)
+      (λ d near n. risen q (λ i. cell-idle (groundIn cells t lo hi cost kept room dist) d u (r .len) v (omega (arith, r .long)) near))
 
   pub rise-top : {most u : ℕ} {m : Marks} → cells ≤ u → Spreads (groundIn cells t lo hi cost kept room dist) most Nothing UpDone u m m
   rise-top h = passing (λ n. risen refl (λ l. absurd (omega arith)))
@@ -44,12 +44,12 @@ module _ {cells t : ℕ} {lo hi : List ℕ} {cost : List ℤ} {kept : List Bool}
   pub fall-lacks : {u v : ℕ} → u ≡ suc v → u ≤ cells → 0 < at room v → Lacks (pos 0) (getD dist u (pos 0)) (getD dist v (pos 0))
   fall-lacks {v = v} q l «open» = rw q (level-lacks (omega arith) (omega arith) (ready .deep .level v (omega arith) «open»))
 
-  pub fall-relaxed : {most u v : ℕ} {m m′ : Marks} (len : ℕ) → u ≡ suc v → u ≤ cells → 0 < at room v → len + depth dist u ≡ depth dist v →
-      Relaxation most m m′ v (at (m .label) u + len) u 257 →
+  pub fall-relaxed : {most u v : ℕ} {m m′ : Marks} → u ≡ suc v → u ≤ cells → 0 < at room v →
+      Tried most (pos 0) (getD dist u (pos 0)) (getD dist v (pos 0)) m m′ u v 257 →
       Spreads (groundIn cells t lo hi cost kept room dist) most UpDone CellsDone u m m′
-  fall-relaxed {u} {v} len q l «open» long r =
-      relaxing len (ready .deep) (ready .proper) (omega arith) r (down-arc len q (omega arith) «open» long) (risen-relaxed (ready .proper) l)
-      (λ d near up. cells-done up q (λ o. cell-idle (groundIn cells t lo hi cost kept room dist) d u len v long near))
+  fall-relaxed {u = u} {v} q l «open» r =
+      relaxing (r .len) (ready .deep) (ready .proper) (omega arith) (r .relaxation) (down-arc (r .len) q (omega arith) «open» (omega (arith, r .long))) (risen-relaxed (ready .proper) l)
+      (λ d near up. cells-done up q (λ o. cell-idle (groundIn cells t lo hi cost kept room dist) d u (r .len) v (omega (arith, r .long)) near))
 
   pub fall-full : {most u : ℕ} {m : Marks} (v : ℕ) → u ≡ suc v → at room v ≤ 0 →
       Spreads (groundIn cells t lo hi cost kept room dist) most UpDone CellsDone u m m

@@ -12,8 +12,8 @@ use Rattle.signed.specs.Parts.{up, dn, Neg, neg}
 use Rattle.sums.specs.Each.{of-yes}
 use Rattle.flow.specs.Searching.{Ground, Spread}
 use Rattle.flow.specs.SearchSteps.{spread-relaxed, along-arc, back-arc, chain-step-along, chain-step-back}
-use Rattle.planrow.specs.State.{at, flag, depth, groundIn, Ready, Chained, Marks, Relaxation, Lacks, Spreads}
-use Rattle.planrow.specs.Relaxed.{passing, relaxing}
+use Rattle.planrow.specs.State.{at, flag, depth, groundIn, Ready, Chained, Marks, Lacks, Tried, Spreads}
+use Rattle.planrow.specs.Relaxed.{cost-back, passing, relaxing}
 use Rattle.planrow.specs.Stages.{spreads-on}
 
 -- ---- along a chain
@@ -58,28 +58,6 @@ module _
     where
       inside : e < g .t
       inside = omega arith
-
--- ---- what an arc lacks, as the code reads its three numbers
-
--- len is the length that `length_left` gives it
-abbrev pub Long : ℤ → ℤ → ℤ → ℕ → Type 0
-Long cost near far len = len + (dn (rd near) + dn (rd cost)) ≡ dn (rd far) + up (rd cost)
-
-module _ {cost near far : ℤ} (k : Lacks cost near far) where
-  cost-back : rd cost ≡ cost
-  cost-back = back (within cost 1000000 (omega arith) (omega arith))
-
-  near-back : rd near ≡ near
-  near-back = back (within near 256000000 (omega arith) (omega arith))
-
-  far-back : rd far ≡ far
-  far-back = back (within far 256000000 (omega arith) (omega arith))
-
-  pub read : Lacks (rd cost) (rd near) (rd far)
-  read = rw (cost-back, near-back, far-back) k
-
-  pub measured : (len : ℕ) → Long cost near far len → (len + (dn near + dn cost) ≡ dn far + up cost) × (len ≤ 257000000)
-  measured len is = let long : len + (dn near + dn cost) ≡ dn far + up cost = rw (near-back, cost-back, far-back) at is in (long, omega arith)
 
 -- ---- one link: the arc out of u along dropped candidate e, or back along kept candidate e
 
@@ -131,25 +109,31 @@ module _
       (omega (arith, turned is, ready .deep .paid e l stays, ap (depth dist) q, ready .costs .not-above e l))
 
   pub along-done :
-      {most u : ℕ} {m m′ : Marks} (len : ℕ) → flag kept e ≡ false → at lo e ≡ u →
-      Long (getD cost e (pos 0)) (getD dist u (pos 0)) (getD dist (at hi e) (pos 0)) len → Relaxation most m m′ (at hi e) (at (m .label) u + len) u e →
+      {most u : ℕ} {m m′ : Marks} → flag kept e ≡ false → at lo e ≡ u →
+      Tried most (rd (getD cost e (pos 0))) (getD dist u (pos 0)) (getD dist (at hi e) (pos 0)) m m′ u (at hi e) e →
       Spreads (groundIn cells t lo hi cost kept room dist) most (DroppedFrom (suc e)) (DroppedFrom e) u m m′
-  along-done {u} len out q is r =
-      relaxing len (ready .deep) (ready .proper) (omega (arith, two-ends)) r (along-arc len l out (sym q) refl long)
+  along-done {most} {u} {m} {m′} out q read-so =
+      relaxing (r .len) (ready .deep) (ready .proper) (omega (arith, two-ends)) (r .relaxation) (along-arc (r .len) l out (sym q) refl long)
       (λ arc less same. spread-relaxed (ready .proper) (omega (arith, two-ends)) arc less same)
       (λ d near s. chain-step-along s (λ _ _ _. omega (arith, long)))
     where
-      long : len + (depth dist u + depth cost e) ≡ depth dist (at hi e)
-      long = omega (arith, measured (along-lacks out q) len is, ready .costs .not-above e l)
+      r : Tried most (getD cost e (pos 0)) (getD dist u (pos 0)) (getD dist (at hi e) (pos 0)) m m′ u (at hi e) e
+      r = rw (cost-back (along-lacks out q)) at read-so
+
+      long : r .len + (depth dist u + depth cost e) ≡ depth dist (at hi e)
+      long = omega (arith, r .long, ready .costs .not-above e l)
 
   pub back-done :
-      {u : ℕ} {z : ℤ} {most : ℕ} {m m′ : Marks} (len : ℕ) → z ≡ pos 0 -ℤ rd (getD cost e (pos 0)) → flag kept e ≡ true → at hi e ≡ u →
-      Long z (getD dist u (pos 0)) (getD dist (at lo e) (pos 0)) len → Relaxation most m m′ (at lo e) (at (m .label) u + len) u e →
+      {most u : ℕ} {z : ℤ} {m m′ : Marks} → z ≡ pos 0 -ℤ rd (getD cost e (pos 0)) → flag kept e ≡ true → at hi e ≡ u →
+      Tried most (rd z) (getD dist u (pos 0)) (getD dist (at lo e) (pos 0)) m m′ u (at lo e) e →
       Spreads (groundIn cells t lo hi cost kept room dist) most (KeptFrom (suc e)) (KeptFrom e) u m m′
-  back-done {u} len turn stays q is r =
-      relaxing len (ready .deep) (ready .proper) (omega (arith, two-ends)) r (back-arc len l stays (sym q) refl long)
+  back-done {most} {u} {z} {m} {m′} turn stays q read-so =
+      relaxing (r .len) (ready .deep) (ready .proper) (omega (arith, two-ends)) (r .relaxation) (back-arc (r .len) l stays (sym q) refl long)
       (λ arc less same. spread-relaxed (ready .proper) (omega (arith, two-ends)) arc less same)
       (λ d near s. chain-step-back s (λ _ _ _. omega (arith, long)))
     where
-      long : len + depth dist u ≡ depth dist (at lo e) + depth cost e
-      long = omega (arith, measured (back-lacks turn stays q) len is, turned turn, ready .costs .not-above e l)
+      r : Tried most z (getD dist u (pos 0)) (getD dist (at lo e) (pos 0)) m m′ u (at lo e) e
+      r = rw (cost-back (back-lacks turn stays q)) at read-so
+
+      long : r .len + depth dist u ≡ depth dist (at lo e) + depth cost e
+      long = omega (arith, r .long, turned turn, ready .costs .not-above e l)

@@ -5,13 +5,16 @@ use mathlib.Core.Logic.{⊎-elim}
 use mathlib.Core.Path.{_≡_, refl, ap}
 use Prim.Native.Nat.{ℕ, suc, _+_, _≤_, _<_}
 use native.Mathlib.Omega.{arith}
+use lib.IntN.{ℤ}
 use lib.ListN.{length, set}
 use lib.Seq.{getD-set-same, getD-set-other}
+use Rattle.signed.specs.Bits.{rd, back, within}
+use Rattle.signed.specs.Parts.{up, dn}
 use Rattle.sums.specs.Each.{less-or-not}
 use Rattle.flow.specs.Balanced.{Proper}
 use Rattle.flow.specs.Searching.{Ground, Came, Labels}
 use Rattle.flow.specs.SearchSteps.{DeepAt, relaxed, passed}
-use Rattle.planrow.specs.State.{at, Marks, marks, Listed, Relaxation, Spreads}
+use Rattle.planrow.specs.State.{at, Marks, marks, Listed, Relaxation, Lacks, Spreads}
 use Rattle.planrow.specs.OpenList.{listed-room, listed-lower, listed-push}
 
 -- ---- the ways through `relax`
@@ -44,6 +47,27 @@ module _ {most v way u arc : ℕ} {label by from list : List ℕ} {size : ℕ} (
     again = λ h. again;
     first = λ h. first;
   }
+
+-- ---- what an arc lacks, as the code reads its three numbers
+
+module _ {cost near far : ℤ} (k : Lacks cost near far) where
+  pub cost-back : rd cost ≡ cost
+  cost-back = back (within cost 1000000 (omega arith) (omega arith))
+
+  near-back : rd near ≡ near
+  near-back = back (within near 256000000 (omega arith) (omega arith))
+
+  far-back : rd far ≡ far
+  far-back = back (within far 256000000 (omega arith) (omega arith))
+
+  pub read-cost : Lacks (rd cost) near far
+  read-cost = rw cost-back k
+
+  pub read : Lacks (rd cost) (rd near) (rd far)
+  read = rw (cost-back, near-back, far-back) k
+
+  pub measured : (len : ℕ) → len + (dn (rd near) + dn (rd cost)) ≡ dn (rd far) + up (rd cost) → (len + (dn near + dn cost) ≡ dn far + up cost) × (len ≤ 257000000)
+  measured len is = let long : len + (dn near + dn cost) ≡ dn far + up cost = rw (near-back, cost-back, far-back) at is in (long, omega arith)
 
 -- ---- a step of the search
 

@@ -147,6 +147,12 @@ pub record Lacks (cost near far : ℤ) : Type 0 where
   pub far-low : dn far ≤ 256000000
   pub not-below : dn near + dn cost ≤ dn far + up cost
 
+-- an arc of this cost from u to v is relaxed, with the length that it lacks
+pub record Tried (most : ℕ) (cost near far : ℤ) (m m′ : Marks) (u v arc : ℕ) : Type 0 where
+  pub len : ℕ
+  pub long : len + (dn near + dn cost) ≡ dn far + up cost
+  pub relaxation : Relaxation most m m′ v (at (m .label) u + len) u arc
+
 -- a search begins: every node open, b at 0 and the others at most
 pub record Fresh (cells b most : ℕ) (label rank : List ℕ) : Type 0 where
   pub root : at label b ≡ 0

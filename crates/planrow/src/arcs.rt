@@ -2,10 +2,10 @@
 // that one record says what it is.
 ghost use mathlib.Core.Path.{_≡_};
 ghost use Prim.Native.Nat.{suc, _+_, _≤_, _<_};
-ghost use lib.ListN.{set};
+ghost use lib.ListN.{getD, set};
 ghost use lib.IntN.{pos, _-ℤ_};
 ghost use Rattle.signed.specs.Parts.{up, dn};
-ghost use Rattle.planrow.specs.State.{at, groundIn, Ready, Chained, marks, Relaxation, Lacks, Spreads, Nothing, UpDone, CellsDone, DroppedDone, AllDone};
+ghost use Rattle.planrow.specs.State.{at, groundIn, Ready, Chained, marks, Relaxation, Lacks, Tried, Spreads, Nothing, UpDone, CellsDone, DroppedDone, AllDone};
 
 // What an arc of this cost lacks to lower its far end: never below 0.
 pub fn length_left(cost: i64, near: i64, far: i64) -> usize
@@ -69,6 +69,28 @@ pub fn relax(
     enlist(list, size, v)
 }
 
+// Relaxes v along `arc`, an arc of this cost from u.
+pub fn try_arc(
+    cost: i64,
+    dist: &[i64; 128],
+    most: usize,
+    label: &mut [usize; 128],
+    by: &mut [usize; 128],
+    from: &mut [usize; 128],
+    list: &mut [usize; 128],
+    size: usize,
+    u: usize,
+    v: usize,
+    arc: usize,
+) -> usize
+    requires { ⌜ (u < 128) × (v < 128) × (at (now label) u ≤ 1000000) ⌝ }
+    requires { ⌜ Lacks cost (getD (now dist) u (pos 0)) (getD (now dist) v (pos 0)) ⌝ }
+    ensures { λ r. ⌜ Tried most cost (getD (now (dist .entry)) u (pos 0)) (getD (now (dist .entry)) v (pos 0)) (marks (now (label .entry)) (now (by .entry)) (now (from .entry)) (now (list .entry)) size) (marks (now (label .exit)) (now (by .exit)) (now (from .exit)) (now (list .exit)) r) u v arc ⌝ }
+{
+    let way = label[u] + length_left(cost, dist[u], dist[v]);
+    relax(most, label, by, from, list, size, v, way, u, arc)
+}
+
 // The arc up the cell above u: it is always open.
 pub fn rise(
     cells: usize,
@@ -92,8 +114,7 @@ pub fn rise(
     ensures { λ r. ⌜ Spreads (groundIn cells t (now (lo .entry)) (now (hi .entry)) (now (cost .entry)) (now (kept .entry)) (now (room .entry)) (now (dist .entry))) most Nothing UpDone u (marks (now (label .entry)) (now (by .entry)) (now (from .entry)) (now (list .entry)) size) (marks (now (label .exit)) (now (by .exit)) (now (from .exit)) (now (list .exit)) r) ⌝ }
 {
     if u < cells {
-        let way = label[u] + length_left(0, dist[u], dist[u + 1]);
-        return relax(most, label, by, from, list, size, u + 1, way, u, 256);
+        return try_arc(0, dist, most, label, by, from, list, size, u, u + 1, 256);
     }
     size
 }
@@ -124,8 +145,7 @@ pub fn fall(
         return size;
     }
     if 0 < room[u - 1] {
-        let way = label[u] + length_left(0, dist[u], dist[u - 1]);
-        return relax(most, label, by, from, list, size, u - 1, way, u, 257);
+        return try_arc(0, dist, most, label, by, from, list, size, u, u - 1, 257);
     }
     size
 }
@@ -160,9 +180,7 @@ pub fn spread_dropped(
     while 0 < i {
         let e = i - 1;
         if !kept[e] {
-            let v = hi[e];
-            let way = label[u] + length_left(cost[e], dist[u], dist[v]);
-            n = relax(most, label, by, from, list, n, v, way, u, e);
+            n = try_arc(cost[e], dist, most, label, by, from, list, n, u, hi[e], e);
         }
         i = next[e];
     }
@@ -199,9 +217,8 @@ pub fn spread_kept(
     while 0 < i {
         let e = i - 1;
         if kept[e] {
-            let v = lo[e];
-            let way = label[u] + length_left(reversed(cost[e]), dist[u], dist[v]);
-            n = relax(most, label, by, from, list, n, v, way, u, e);
+            let back = reversed(cost[e]);
+            n = try_arc(back, dist, most, label, by, from, list, n, u, lo[e], e);
         }
         i = next[e];
     }

@@ -1,5 +1,4 @@
 // The search from node b for node a, nearest node first.
-ghost use mathlib.Core.Path.{_≡_};
 ghost use Prim.Native.Nat.{_≤_, _<_};
 ghost use Rattle.planrow.specs.State.{at, groundIn, Ready, Chained, CanChoose, Chosen, Searched, Fresh, marks, Spreads, Nothing, AllDone};
 use crate::arcs;

@@ -4,11 +4,10 @@ use mathlib.Core.Logic.{⊎-elim}
 use mathlib.Core.Path.{_≡_}
 use Prim.Native.Nat.{ℕ, _-_, _≤_, _<_}
 use native.Mathlib.Omega.{arith}
-use lib.IntN.{pos}
-use lib.ListN.{getD}
 use Rattle.flow.specs.SearchSteps.{chain-skip-back}
-use Rattle.planrow.specs.State.{at, groundIn, marks, DroppedDone, Lacks}
-use Rattle.planrow.specs.Chains.{KeptFrom, Followed, begun, followed, read, measured, two-ends, small, back-lacks, back-done, back-none}
+use Rattle.planrow.specs.State.{at, groundIn, marks, DroppedDone}
+use Rattle.planrow.specs.Relaxed.{read-cost}
+use Rattle.planrow.specs.Chains.{KeptFrom, Followed, begun, followed, two-ends, small, back-lacks, back-done, back-none}
 use Rattle.planrow.proofs.arcs.spread_kept.Statement.{statement}
 use Rattle.planrow.proofs.arcs.spread_kept.Tie as tie
 
@@ -29,11 +28,8 @@ link-in c = omega arith
 ends : (c : tie.In-loop Inv-loop μ-loop) → let a = c .before .before .before .args in (at (a .lo .now) (link c) < at (a .hi .now) (link c)) × (at (a .hi .now) (link c) ≤ a .cells)
 ends c = two-ends (c .before .before .before .pre .0) (link-in c)
 
-lacks : (c : tie.After-reversed Inv-loop μ-loop) → let k = c .before .before .before .before .before .before in let a = k .before .before .before .args in
-    Lacks (c .reversed .result) (getD (a .dist .now) (a .u) (pos 0)) (getD (a .dist .now) (at (a .lo .now) (link k)) (pos 0))
-lacks c =
-    let k = c .before .before .before .before .before .before in
-    back-lacks (k .before .before .before .pre .0) (link-in k) (c .reversed .ensures) (c .before .before .before .before .if1 .taken) (k .before .loop .inv .here (link k) (omega arith))
+at-u : (c : tie.In-loop Inv-loop μ-loop) → let a = c .before .before .before .args in at (a .hi .now) (link c) ≡ a .u
+at-u c = c .before .loop .inv .here (link c) (omega arith)
 
 mul-i : tie.Need-mul-i Inv-loop μ-loop
 mul-i c = omega arith
@@ -50,18 +46,6 @@ sub-e c = omega arith
 element-copy-out-if1 : tie.Need-element-copy-out-if1 Inv-loop μ-loop
 element-copy-out-if1 c = omega arith
 
-mul-v : tie.Need-mul-v Inv-loop μ-loop
-mul-v c = omega arith
-
-element-copy-out-v : tie.Need-element-copy-out-v Inv-loop μ-loop
-element-copy-out-v c = omega arith
-
-mul-way : tie.Need-mul-way Inv-loop μ-loop
-mul-way c = omega arith
-
-element-copy-out-way : tie.Need-element-copy-out-way Inv-loop μ-loop
-element-copy-out-way c = omega arith
-
 mul-reversed : tie.Need-mul-reversed Inv-loop μ-loop
 mul-reversed c = omega arith
 
@@ -69,28 +53,20 @@ element-copy-out-reversed : tie.Need-element-copy-out-reversed Inv-loop μ-loop
 element-copy-out-reversed c = omega arith
 
 reversed-requires : tie.Need-reversed-requires Inv-loop μ-loop
-reversed-requires c κs = let k = c .before .before .before .before .before in small (k .before .before .before .pre .0) (link-in k)
+reversed-requires c κs = let k = c .before .before .before in small (k .before .before .before .pre .0) (link-in k)
 
-mul-length-left : tie.Need-mul-length-left Inv-loop μ-loop
-mul-length-left c = omega arith
+mul-try-arc : tie.Need-mul-try-arc Inv-loop μ-loop
+mul-try-arc c = omega arith
 
-element-copy-out-length-left : tie.Need-element-copy-out-length-left Inv-loop μ-loop
-element-copy-out-length-left c = omega arith
+element-copy-out-try-arc : tie.Need-element-copy-out-try-arc Inv-loop μ-loop
+element-copy-out-try-arc c = omega arith
 
-mul-length-left-2 : tie.Need-mul-length-left-2 Inv-loop μ-loop
-mul-length-left-2 c = omega (arith, ends (c .before .before .before .before .before .before .before))
-
-element-copy-out-length-left-2 : tie.Need-element-copy-out-length-left-2 Inv-loop μ-loop
-element-copy-out-length-left-2 c = omega (arith, ends (c .before .before .before .before .before .before .before))
-
-length-left-requires : tie.Need-length-left-requires Inv-loop μ-loop
-length-left-requires c κs = read (lacks (c .before .before))
-
-add-way : tie.Need-add-way Inv-loop μ-loop
-add-way c = omega (arith, measured (lacks (c .before .before .before)) (c .length-left .result) (c .length-left .ensures))
-
-relax-requires : tie.Need-relax-requires Inv-loop μ-loop
-relax-requires c κs = omega (arith, ends (c .before .before .before .before .before .before .before .before .before .before .before .before .before))
+try-arc-requires : tie.Need-try-arc-requires Inv-loop μ-loop
+try-arc-requires c κs =
+    let r = c .before .before .before .before .before in
+    let t = r .before .before in
+    let k = t .before .before in
+    (omega (arith, ends k), read-cost (back-lacks (k .before .before .before .pre .0) (link-in k) (r .reversed .ensures) (t .if1 .taken) (at-u k)))
 
 mul-i-2 : tie.Need-mul-i-2 Inv-loop μ-loop
 mul-i-2 c = omega arith
@@ -104,13 +80,10 @@ loop-less c = let k = c .before .before .before in omega (arith, k .before .befo
 loop-again : tie.Need-loop-again Inv-loop μ-loop
 loop-again c =
     let k = c .before .before .before in
-    let l = k .before .loop in
     let s = k .before .before .before in
-    followed (λ d i j. chain-skip-back) (s .pre .1 .1) (omega arith) (l .inv)
+    followed (λ d i j. chain-skip-back) (s .pre .1 .1) (omega arith) (k .before .loop .inv)
     (⊎-elim
-    (λ w.
-    rw (w .13, w .14, w .15, w .16, w .17)
-    (back-done (s .pre .0) (link-in k) (w .7 .result) (w .4 .ensures) (w .0 .taken) (l .inv .here (link k) (omega arith)) (w .7 .ensures) (w .12 .ensures)))
+    (λ w. rw (w .9, w .10, w .11, w .12, w .13) (back-done (s .pre .0) (link-in k) (w .2 .ensures) (w .0 .taken) (at-u k) (w .8 .ensures)))
     (λ w. rw (w .1, w .2, w .3, w .4, w .5) (back-none (w .0 .left)))
     (c .before .if1 .came))
 
@@ -128,20 +101,12 @@ spread-kept-spec =
     loop-holds
     sub-e
     element-copy-out-if1
-    mul-v
-    element-copy-out-v
-    mul-way
-    element-copy-out-way
     mul-reversed
     element-copy-out-reversed
     reversed-requires
-    mul-length-left
-    element-copy-out-length-left
-    mul-length-left-2
-    element-copy-out-length-left-2
-    length-left-requires
-    add-way
-    relax-requires
+    mul-try-arc
+    element-copy-out-try-arc
+    try-arc-requires
     mul-i-2
     element-copy-out-i-2
     loop-less
