@@ -2,7 +2,7 @@
 -- nothing.
 use mathlib.Core.Path.{_≡_, refl}
 use mathlib.Core.List.{List}
-use Prim.Native.Nat.{ℕ, _+_, _<_}
+use Prim.Native.Nat.{ℕ, _+_, _≤_, _<_}
 use native.Mathlib.Omega.{arith}
 use lib.ListN.{length, getD, set, length-set}
 use Rattle.sums.specs.Filled.{Filled, filled-none, filled-more}
@@ -18,6 +18,11 @@ pub record Columned (requests : List Request) (count : ℕ) (made : RequestColum
   pub a-is : Filled (λ i. request requests i .a) count (made .a)
   pub b-is : Filled (λ i. request requests i .b) count (made .b)
   pub profit-is : Filled (λ i. request requests i .profit) count (made .profit)
+
+-- a list has `count` requests, and the columns have room for them
+pub record CanColumn (requests : List Request) (count : ℕ) : Type 0 where
+  pub few : count ≤ 256
+  pub there : count ≤ length requests
 
 -- the columns after i turns
 pub record Filling (requests : List Request) (i : ℕ) (a b profit : List ℕ) : Type 0 where

@@ -1,2 +1,3 @@
 pub mod Columned
 pub mod Seam
+pub mod Lending

@@ -1,5 +1,5 @@
--- The seam between the reader and what works on its book: where the reader accepts a file, its reading is a sound book, and the limits and columns
--- hold that book. Assumes nothing.
+-- The seam between the reader and what works on its book: where the reader accepts a file, its reading is a sound book, whose requests are lent as
+-- one list; the limits, and the columns made of that list, hold the book. Assumes nothing.
 use mathlib.Core.Path.{_≡_, refl, sym, ap, _∙_}
 use mathlib.Core.List.{List}
 use Prim.Native.Nat.{ℕ, _≤_, _<_}
@@ -18,7 +18,7 @@ use Rattle.reader.specs.declared.Taken.{Taken}
 use Rattle.reader.specs.declared.Answer.the-variants.{Accepted, Refused}
 use Rattle.reader.specs.Says.{plain, bookFrom, outcomeOf, Reads}
 use Rattle.columns.specs.declared.RequestColumns.{RequestColumns}
-use Rattle.columns.specs.Columned.{Columned, request}
+use Rattle.columns.specs.Columned.{Columned, CanColumn, request}
 
 -- an accepted book, with the numbers that hold it
 pub record HeldBook (net : Network) (count : ℕ) (limits a b profits : List ℕ) : Type 0 where
@@ -42,7 +42,7 @@ module _ (net : Network) (limits : List ℕ) (count : ℕ) (requests : List Requ
   unfolding bookFrom
   made-request i h = sym (List·getD-map plain (take count requests) i _ ∙ ap plain (getD-take count requests i _ h))
 
-  made-holds :
+  pub made-holds :
       {cols : RequestColumns} → count ≤ length requests → Columned requests count cols
       → Holds (bookFrom net limits count requests) count limits (cols .a) (cols .b) (cols .profit)
   unfolding endA endB profit
@@ -54,28 +54,33 @@ module _ (net : Network) (limits : List ℕ) (count : ℕ) (requests : List Requ
     profit-is = λ i h. made .profit-is .is i h ∙ ap (λ (q : Books.Request). q .profit) (made-request i h);
   }
 
+-- an accepted book whose requests are lent
+pub record LentBook (net : Network) (limits : List ℕ) (requests : List Request) (count : ℕ) : Type 0 where
+  pub can : CanColumn requests count
+  pub sound : Sound (bookFrom net limits count requests)
+
+-- the limits, and the columns that are made of the lent requests, hold that book
+abbrev pub lent-held :
+    {net : Network} {limits : List ℕ} {requests : List Request} {count : ℕ} {cols : RequestColumns}
+    → LentBook net limits requests count → Columned requests count cols → HeldBook net count limits (cols .a) (cols .b) (cols .profit)
+unfolding bookFrom
+lent-held {net} {limits} {requests} {count} lent made = record {
+  book = bookFrom net limits count requests;
+  sound = lent .sound;
+  shape-is = refl;
+  nodes-is = refl;
+  channels-is = refl;
+  holds = made-holds net limits count requests (lent .can .there) made;
+}
+
 pub accepted :
-    {file : List ℕ} {taken : Taken} {net : Network} {cols : RequestColumns}
-    → Reads file taken → taken .answer ≡ Accepted net → Columned (taken .requests) (taken .count) cols
-    → (held : HeldBook net (taken .count) (taken .limits) (cols .a) (cols .b) (cols .profit)) × (reading file ≡ done (held .book))
-unfolding outcomeOf bookFrom
-accepted {file} {taken} {net} {cols} reads e made = (held, read)
+    {file : List ℕ} {taken : Taken} {net : Network} → Reads file taken → taken .answer ≡ Accepted net
+    → LentBook net (taken .limits) (taken .requests) (taken .count) × (reading file ≡ done (bookFrom net (taken .limits) (taken .count) (taken .requests)))
+unfolding outcomeOf
+accepted {file} {taken} {net} reads e = (record { can = record { few = reads .counted; there = omega (arith, reads .counted, reads .sized) }; sound = sound file _ read }, read)
   where
-    book : Book
-    book = bookFrom net (taken .limits) (taken .count) (taken .requests)
-
-    read : reading file ≡ done book
+    read : reading file ≡ done (bookFrom net (taken .limits) (taken .count) (taken .requests))
     read = rw e at (sym (reads .says))
-
-    held : HeldBook net (taken .count) (taken .limits) (cols .a) (cols .b) (cols .profit)
-    held = record {
-      book = book;
-      sound = sound file _ read;
-      shape-is = refl;
-      nodes-is = refl;
-      channels-is = refl;
-      holds = made-holds net (taken .limits) (taken .count) (taken .requests) (omega (arith, reads .counted, reads .sized)) made;
-    }
 
 -- where the reader refuses a file, its reading is that refusal
 pub not-accepted :

@@ -1,6 +1,6 @@
-// The accepted requests as columns of numbers: the seam between the reader and the planner and checker.
-ghost use Prim.Native.Nat.{_≤_};
-ghost use Rattle.columns.specs.Columned.{Columned};
+// The accepted requests as columns of numbers: the seam between the reader and the planner and checker. The list of requests is lent.
+ghost use Rattle.columns.specs.Columned.{Columned, CanColumn};
+use reader::Request;
 
 pub struct RequestColumns {
     pub a: [usize; 256],
@@ -8,10 +8,10 @@ pub struct RequestColumns {
     pub profit: [usize; 256],
 }
 
-// The columns of the first `count` requests.
-pub fn columns(requests: [reader::Request; 256], count: usize) -> RequestColumns
-    requires { ⌜ count ≤ 256 ⌝ }
-    ensures { λ r. ⌜ Columned requests count r ⌝ }
+// The columns of the first `count` requests of the lent list.
+pub fn columns(requests: &[Request], count: usize) -> RequestColumns
+    requires { ⌜ CanColumn (now requests) count ⌝ }
+    ensures { λ r. ⌜ Columned (now (requests .entry)) count r ⌝ }
 {
     let mut a = [0usize; 256];
     let mut b = [0usize; 256];

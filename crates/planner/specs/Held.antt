@@ -21,9 +21,7 @@ use Rattle.reader.specs.declared.Network.{Network}
 use Rattle.reader.specs.declared.Refusal.{Refusal}
 use Rattle.reader.specs.declared.Taken.{Taken}
 use Rattle.reader.specs.declared.Answer.the-variants.{Accepted, Refused}
-use Rattle.reader.specs.Says.{Reads}
-use Rattle.columns.specs.declared.RequestColumns.{RequestColumns}
-use Rattle.columns.specs.Columned.{Columned}
+use Rattle.reader.specs.Says.{Reads, bookFrom}
 use Rattle.columns.specs.Seam.{HeldBook, accepted, not-accepted}
 use Rattle.line.specs.declared.Solved.{Solved}
 use Rattle.line.specs.Promise.{CanPlanLine, LinePlanned}
@@ -170,11 +168,9 @@ unread entryPlaces pricePlaces reads e says = refused-by (rw (not-accepted reads
 
 -- a file that is read is planned as its book is
 pub read :
-    {file : List ℕ} {taken : Taken} {net : Network} {cols : RequestColumns} {entryPlaces pricePlaces : ℕ} {r : BookPlan} → Reads file taken → taken .answer ≡ Accepted net
-    → Columned (taken .requests) (taken .count) cols
-    → ((held : HeldBook net (taken .count) (taken .limits) (cols .a) (cols .b) (cols .profit)) → HeldPlanned (held .book) entryPlaces pricePlaces r) → BookPlanned file entryPlaces pricePlaces r
+    {file : List ℕ} {taken : Taken} {net : Network} {entryPlaces pricePlaces : ℕ} {r : BookPlan} → Reads file taken → taken .answer ≡ Accepted net
+    → HeldPlanned (bookFrom net (taken .limits) (taken .count) (taken .requests)) entryPlaces pricePlaces r → BookPlanned file entryPlaces pricePlaces r
 unfolding plannableIn andThen
-read {entryPlaces} {pricePlaces} reads e made planned =
-    let seam = accepted reads e made in
-    let how = planned (seam .0) in
-    ⊎-elim (λ t. refused-by (rw (seam .1, t)) (how .short t)) (λ t. planned-by (rw (seam .1, t)) (how .long t)) (decided (placesShort (seam .0 .book) entryPlaces pricePlaces))
+read {entryPlaces} {pricePlaces} reads e how =
+    let is = accepted reads e .1 in
+    ⊎-elim (λ t. refused-by (rw (is, t)) (how .short t)) (λ t. planned-by (rw (is, t)) (how .long t)) (decided (placesShort _ entryPlaces pricePlaces))

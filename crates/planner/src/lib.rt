@@ -3,7 +3,8 @@
 ghost use mathlib.Core.Path.{_≡_};
 ghost use mathlib.Core.Bool.{_&&_, _||_};
 ghost use lib.Dec.{eqb, ltb};
-ghost use Rattle.columns.specs.Seam.{HeldBook};
+ghost use Rattle.reader.specs.Says.{bookFrom};
+ghost use Rattle.columns.specs.Seam.{HeldBook, LentBook};
 ghost use Rattle.line.specs.Promise.{CanPlanLine};
 ghost use Rattle.ring.specs.Promise.{CanPlanRing};
 ghost use Rattle.planner.specs.Promise.{answered, Refusing, PlanOf, BookPlanned};
@@ -12,6 +13,7 @@ use columns::RequestColumns;
 use line::Solved;
 use reader::Network;
 use reader::Refusal;
+use reader::Request;
 
 // What planning a book comes to.
 pub enum Answer {
@@ -166,6 +168,37 @@ fn plan_held(
     plan_on_ring(net.nodes, net.channels, count, limits, cols)
 }
 
+// The plan of an accepted book whose requests are lent, or 12.
+fn plan_lent(
+    net: Network,
+    limits: [usize; 64],
+    requests: &[Request],
+    count: usize,
+    entry_places: usize,
+    price_places: usize,
+) -> BookPlan
+    requires { ⌜ LentBook net limits (now requests) count ⌝ }
+    ensures { λ r. ⌜ HeldPlanned (bookFrom net limits count (now (requests .entry))) «entry_places» «price_places» r ⌝ }
+{
+    let cols = columns::columns(requests, count);
+    plan_held(net, limits, count, cols, entry_places, price_places)
+}
+
+// The same for the list that the reader hands on: here it is lent.
+fn plan_accepted(
+    net: Network,
+    limits: [usize; 64],
+    requests: [Request; 256],
+    count: usize,
+    entry_places: usize,
+    price_places: usize,
+) -> BookPlan
+    requires { ⌜ LentBook net limits requests count ⌝ }
+    ensures { λ r. ⌜ HeldPlanned (bookFrom net limits count requests) «entry_places» «price_places» r ⌝ }
+{
+    plan_lent(net, limits, &requests, count, entry_places, price_places)
+}
+
 // Plans the book for lists with this many places for entries and for prices.
 pub fn plan_book(file: &[u8], entry_places: usize, price_places: usize) -> BookPlan
     ensures { λ r. ⌜ BookPlanned (now (file .entry)) «entry_places» «price_places» r ⌝ }
@@ -177,9 +210,13 @@ pub fn plan_book(file: &[u8], entry_places: usize, price_places: usize) -> BookP
     let requests = taken.requests;
     match answer {
         reader::Answer::Refused(refusal) => refuse(refusal),
-        reader::Answer::Accepted(net) => {
-            let cols = columns::columns(requests, count);
-            plan_held(net, limits, count, cols, entry_places, price_places)
-        }
+        reader::Answer::Accepted(net) => plan_accepted(
+            net,
+            limits,
+            requests,
+            count,
+            entry_places,
+            price_places,
+        ),
     }
 }

@@ -4,7 +4,8 @@ ghost use mathlib.Core.Path.{_≡_};
 ghost use Rattle.book.specs.Bytes.{entryIn, priceIn};
 ghost use Rattle.rules.specs.Prices.{verdict};
 ghost use Rattle.rules.specs.Operations.{checking, checker};
-ghost use Rattle.columns.specs.Seam.{HeldBook};
+ghost use Rattle.reader.specs.Says.{bookFrom};
+ghost use Rattle.columns.specs.Seam.{HeldBook, LentBook};
 ghost use Rattle.verdict.specs.CanCheck.{CanCheck};
 ghost use Rattle.verdict.specs.Checked.{checkedOf};
 
@@ -92,6 +93,55 @@ fn check_book(
     Checked::No
 }
 
+// Checks a plan for an accepted book whose requests are columns.
+fn check_held(
+    network: reader::Network,
+    limits: [usize; 64],
+    count: usize,
+    cols: columns::RequestColumns,
+    entries: &[u8],
+    prices: &[u8],
+) -> Checked
+    requires { ⌜ HeldBook network count limits (cols .a) (cols .b) (cols .profit) ⌝ }
+    ensures { λ r. ⌜ ((h : HeldBook network count limits (cols .a) (cols .b) (cols .profit)) → checkedOf r ≡ checking (h .book) (now (entries .entry)) (now (prices .entry))) ⌝ }
+{
+    let a = cols.a;
+    let b = cols.b;
+    let profits = cols.profit;
+    check_book(network, &limits, count, &a, &b, &profits, entries, prices)
+}
+
+// Checks a plan for an accepted book whose requests are lent.
+fn check_lent(
+    network: reader::Network,
+    limits: [usize; 64],
+    requests: &[reader::Request],
+    count: usize,
+    entries: &[u8],
+    prices: &[u8],
+) -> Checked
+    requires { ⌜ LentBook network limits (now requests) count ⌝ }
+    ensures { λ r. ⌜ checkedOf r ≡ checking (bookFrom network limits count (now (requests .entry))) (now (entries .entry)) (now (prices .entry)) ⌝ }
+{
+    let cols = columns::columns(requests, count);
+    check_held(network, limits, count, cols, entries, prices)
+}
+
+// The same for the list that the reader hands on: here it is lent.
+fn check_accepted(
+    network: reader::Network,
+    limits: [usize; 64],
+    requests: [reader::Request; 256],
+    count: usize,
+    entries: &[u8],
+    prices: &[u8],
+) -> Checked
+    requires { ⌜ LentBook network limits requests count ⌝ }
+    ensures { λ r. ⌜ checkedOf r ≡ checking (bookFrom network limits count requests) (now (entries .entry)) (now (prices .entry)) ⌝ }
+{
+    check_lent(network, limits, &requests, count, entries, prices)
+}
+
 // Checks a plan: the entries, two bytes each, against the prices, four bytes each, for the book in the file. The book's own refusals come first.
 pub fn check_plan(file: &[u8], entries: &[u8], prices: &[u8]) -> Checked
     ensures { λ r. ⌜ checkedOf r ≡ checker (now (file .entry)) (now (entries .entry)) (now (prices .entry)) ⌝ }
@@ -105,9 +155,5 @@ pub fn check_plan(file: &[u8], entries: &[u8], prices: &[u8]) -> Checked
     let limits = taken.limits;
     let count = taken.count;
     let requests = taken.requests;
-    let columns = columns::columns(requests, count);
-    let a = columns.a;
-    let b = columns.b;
-    let profits = columns.profit;
-    check_book(network, &limits, count, &a, &b, &profits, entries, prices)
+    check_accepted(network, limits, requests, count, entries, prices)
 }

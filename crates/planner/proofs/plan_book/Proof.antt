@@ -17,17 +17,14 @@ refuse-requires c κs = search needs
 enum-known-answer-2 : tie.Need-enum-known-answer-2
 enum-known-answer-2 c = search needs
 
-columns-requires : tie.Need-columns-requires
-columns-requires c κs = search needs
-
-plan-held-requires : tie.Need-plan-held-requires
-plan-held-requires c κs = accepted (c .before .before .before .before .before .before .read-book .ensures) (c .before .before .answer2 .given .1) (c .columns .ensures) .0
+plan-accepted-requires : tie.Need-plan-accepted-requires
+plan-accepted-requires c κs = accepted (c .before .before .before .before .before .read-book .ensures) (c .before .answer2 .given .1) .0
 
 returns : tie.Need-returns
 returns c = unread _ _ (c .before .before .before .before .before .before .read-book .ensures) (c .before .before .answer .given .1) (c .refuse .ensures)
 
 returns-2 : tie.Need-returns-2
-returns-2 c = read (c .before .before .before .before .before .before .before .read-book .ensures) (c .before .before .before .answer2 .given .1) (c .before .columns .ensures) (c .plan-held .ensures)
+returns-2 c = read (c .before .before .before .before .before .before .read-book .ensures) (c .before .before .answer2 .given .1) (c .plan-accepted .ensures)
 
 pub plan-book-spec : {M : Type 1} → statement M
 plan-book-spec =
@@ -37,7 +34,6 @@ plan-book-spec =
     enum-known-answer
     refuse-requires
     enum-known-answer-2
-    columns-requires
-    plan-held-requires
+    plan-accepted-requires
     returns
     returns-2)

@@ -1,4 +1,5 @@
--- `verdict::check_plan` meets its contract: the reader's refusal is the checker's, and an accepted book is checked by its columns. Assumes nothing.
+-- `verdict::check_plan` meets its contract: the reader's refusal is the checker's, and an accepted book is checked with its requests lent. Assumes
+-- nothing.
 use borrow.Author.Needs.{needs}
 use Rattle.columns.specs.Seam.{accepted, not-accepted}
 use Rattle.verdict.specs.Checked.{checkedOf}
@@ -19,21 +20,15 @@ returns : tie.Need-returns
 unfolding checkedOf
 returns c = book-refused _ _ _ (not-accepted (c .before .before .before .read-book .ensures) (c .before .answer2 .given .1))
 
-columns-requires : tie.Need-columns-requires
-columns-requires c κs = search needs
-
-check-book-requires : tie.Need-check-book-requires
-check-book-requires c κs =
-    let cols = c .before .before .before .before .before .before .before in
-    let told = cols .before .before .before .before in
-    accepted (told .before .before .read-book .ensures) (told .answer .given .1) (cols .columns .ensures) .0
+check-accepted-requires : tie.Need-check-accepted-requires
+check-accepted-requires c κs =
+    let told = c .before .before .before in
+    accepted (told .before .before .read-book .ensures) (told .answer .given .1) .0
 
 returns-2 : tie.Need-returns-2
 returns-2 c =
-    let cols = c .before .before .before .before .before .before .before .before in
-    let told = cols .before .before .before .before in
-    let held = accepted (told .before .before .read-book .ensures) (told .answer .given .1) (cols .columns .ensures) in
-    book-accepted _ _ _ (held .1) (c .check-book .ensures (held .0))
+    let told = c .before .before .before .before in
+    book-accepted _ _ _ (accepted (told .before .before .read-book .ensures) (told .answer .given .1) .1) (c .check-accepted .ensures)
 
 pub check-plan-spec : {M : Type 1} → statement M
 check-plan-spec =
@@ -43,6 +38,5 @@ check-plan-spec =
     enum-known-answer
     enum-known-answer-2
     returns
-    columns-requires
-    check-book-requires
+    check-accepted-requires
     returns-2)
