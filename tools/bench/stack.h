@@ -1,0 +1,4 @@
+// The stack that a call needs.
+#pragma once
+
+void report_stack();
