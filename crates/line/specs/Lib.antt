@@ -5,6 +5,8 @@ pub mod Entering
 pub mod Placing
 pub mod Totals
 pub mod Solving
+pub mod Reordered
+pub mod Arranging
 pub mod AsRow
 pub mod Certified
 pub mod Written

@@ -6,6 +6,7 @@ ghost use Rattle.sums.specs.Filled.{Filled};
 ghost use Rattle.book.specs.Columns.{at};
 ghost use Rattle.line.specs.Steps.{Profits, Candidates, CanSolve, Solves, Falls, prices-of};
 ghost use Rattle.line.specs.Placing.{CanPrice, Placed};
+ghost use Rattle.line.specs.Reordered.{Numbers, Arranged, PutBack};
 
 // The lower and the upper end of each request, and its cost: minus its profit.
 fn lay(
@@ -52,7 +53,49 @@ fn make_room(cells: usize, limits: &[usize; 64], room: &mut [usize; 128])
     }
 }
 
-// Lays the requests on the row and finds its best set.
+// The candidates in the order in which they are inserted.
+fn arrange(
+    count: usize,
+    order: &[usize; 256],
+    lo: &[usize; 256],
+    hi: &[usize; 256],
+    cost: &[i64; 256],
+    los: &mut [usize; 256],
+    his: &mut [usize; 256],
+    costs: &mut [i64; 256],
+)
+    requires { ⌜ Numbers count (now order) ⌝ }
+    ensures { λ r. ⌜ Arranged count (now (order .entry)) (now (lo .entry)) (now (hi .entry)) (now (cost .entry)) (now (los .exit)) (now (his .exit)) (now (costs .exit)) ⌝ }
+{
+    // tell how many places there are
+    let lo_places = &los[..];
+    let hi_places = &his[..];
+    let cost_places = &costs[..];
+    let mut i = 0;
+    while i < count {
+        let r = order[i];
+        los[i] = lo[r];
+        his[i] = hi[r];
+        costs[i] = cost[r];
+        i += 1;
+    }
+}
+
+// Which requests are kept, by number: each one as the candidate at its place in the order.
+fn put_back(count: usize, place: &[usize; 256], keeps: &[bool; 256], kept: &mut [bool; 256])
+    requires { ⌜ Numbers count (now place) ⌝ }
+    ensures { λ r. ⌜ PutBack count (now (place .entry)) (now (keeps .entry)) (now (kept .exit)) ⌝ }
+{
+    // tells how many places there are
+    let all = &kept[..];
+    let mut r = 0;
+    while r < count {
+        kept[r] = keeps[place[r]];
+        r += 1;
+    }
+}
+
+// Lays the requests on the row and finds its best set. They are inserted in order of worth, which changes nothing but the time it takes.
 pub fn solve(
     cells: usize,
     count: usize,
@@ -70,9 +113,18 @@ pub fn solve(
     requires { ⌜ CanSolve cells count (now limits) (now a) (now b) (now profit) ⌝ }
     ensures { λ r. ⌜ Solves cells count (now (limits .entry)) (now (a .entry)) (now (b .entry)) (now (profit .entry)) (now (lo .exit)) (now (hi .exit)) (now (cost .exit)) (now (kept .exit)) (now (room .exit)) (now (dist .exit)) ⌝ }
 {
+    let mut order = [0usize; 256];
+    let mut place = [0usize; 256];
+    let mut los = [0usize; 256];
+    let mut his = [0usize; 256];
+    let mut costs = [0i64; 256];
+    let mut keeps = [false; 256];
     lay(count, a, b, profit, lo, hi, cost);
     make_room(cells, limits, room);
-    planrow::plan_row(cells, count, lo, hi, cost, kept, room, dist);
+    order::ordered(count, lo, hi, profit, &mut order, &mut place);
+    arrange(count, &order, lo, hi, cost, &mut los, &mut his, &mut costs);
+    planrow::plan_row(cells, count, &los, &his, &costs, &mut keeps, room, dist);
+    put_back(count, &place, &keeps, kept);
 }
 
 // Where the price of each cell goes: on a line, cell j is span j.

@@ -7,3 +7,4 @@ pub mod Tests
 pub mod Greatest
 pub mod Filled
 pub mod Turns
+pub mod Permuted

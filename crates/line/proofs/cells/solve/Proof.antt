@@ -1,8 +1,23 @@
--- The laid candidates and the limits are a row that can be planned. Assumes nothing.
+-- The laid candidates and the limits are a row that can be planned, in any order; what the planner leaves of the arranged row it leaves, by number, of
+-- the row as laid. Assumes nothing.
 use borrow.Author.Needs.{needs}
 use Rattle.line.specs.Solving.{can-plan}
+use Rattle.line.specs.Reordered.{can-arranged, reordered}
 use Rattle.line.proofs.cells.solve.Statement.{statement}
 use Rattle.line.proofs.cells.solve.Tie as tie
+
+-- from one call back to the one before it, and to the start
+abbrev start : tie.After-lay → tie.Start
+start l = l .before .before .before .before
+
+abbrev laid : tie.After-make-room → tie.After-lay
+laid m = m .before .before
+
+abbrev made : tie.After-ordered → tie.After-make-room
+made o = o .before .before .before .before .before
+
+abbrev ranked : tie.After-arrange → tie.After-ordered
+ranked a = a .before .before .before .before .before .before .before .before
 
 lay-requires : tie.Need-lay-requires
 lay-requires c κs = search needs
@@ -10,21 +25,46 @@ lay-requires c κs = search needs
 make-room-requires : tie.Need-make-room-requires
 make-room-requires c κs = search needs
 
+ordered-requires : tie.Need-ordered-requires
+ordered-requires c κs = search needs
+
+arrange-requires : tie.Need-arrange-requires
+arrange-requires c κs = search needs
+
 plan-row-requires : tie.Need-plan-row-requires
 plan-row-requires c κs =
-    let made = c .before .before .before .before .before .before in
-    let laid = made .before .before in
-    can-plan (laid .before .before .before .before .pre) (laid .lay .ensures) (made .make-room .ensures)
+    let a = c .before .before .before .before .before .before in
+    let o = ranked a in
+    let m = made o in
+    let l = laid m in
+    can-arranged (o .ordered .ensures) (a .arrange .ensures) (can-plan (start l .pre) (l .lay .ensures) (m .make-room .ensures))
+
+put-back-requires : tie.Need-put-back-requires
+put-back-requires c κs =
+    let o = ranked (c .before .before .before .before .before .before .before .before .before .before) in
+    record { few = start (laid (made o)) .pre .profits-are .few; below = o .ordered .ensures .back .below }
 
 returns : tie.Need-returns
 returns c =
-    let made = c .before .before .before .before .before .before .before in
+    let p = c .before .before .before .before in
+    let a = p .before .before .before .before .before .before .before in
+    let o = ranked a in
+    let m = made o in
     record {
-      candidates = made .before .before .lay .ensures;
+      candidates = laid m .lay .ensures;
       free = _;
-      free-is = made .make-room .ensures;
-      standing = c .plan-row .ensures;
+      free-is = m .make-room .ensures;
+      standing = reordered (o .ordered .ensures) (a .arrange .ensures) (c .put-back .ensures) (p .plan-row .ensures);
     }
 
 pub solve-spec : {M : Type 1} → statement M
-solve-spec = tie.close (tie.spec lay-requires make-room-requires plan-row-requires returns)
+solve-spec =
+    tie.close
+    (tie.spec
+    lay-requires
+    make-room-requires
+    ordered-requires
+    arrange-requires
+    plan-row-requires
+    put-back-requires
+    returns)

@@ -1,0 +1,65 @@
+-- Candidates set in an order one after another, and what is kept put back by number: one turn more copies one. Assumes nothing.
+use mathlib.Core.Path.{_≡_, refl, _∙_}
+use mathlib.Core.Bool.{Bool, false}
+use mathlib.Core.List.{List}
+use Prim.Native.Nat.{ℕ, _+_, _<_}
+use native.Mathlib.Omega.{arith}
+use borrow.Author.Count.{below-more}
+use lib.ListN.{length, getD, set, length-set}
+use lib.Seq.{getD-set-same, getD-set-other}
+use lib.IntN.{ℤ, pos}
+use Rattle.sums.specs.Filled.{filled-none, filled-more}
+use Rattle.book.specs.Columns.{at}
+use Rattle.planrow.specs.State.{flag}
+use Rattle.line.specs.Reordered.{Arranged, PutBack}
+
+-- what a list holds up to its next place, after a store there
+stored : {A : Type 0} (f : ℕ → A) (xs : List A) (d : A) {n : ℕ} → ((i : ℕ) → i < n → getD xs i d ≡ f i) → n < length xs → (i : ℕ) → i < n + 1 → getD (set xs n (f n)) i d ≡ f i
+stored {A} f xs d {n} was l =
+    below-more (λ (i : ℕ). getD (set xs n (f n)) i d ≡ f i) n (λ i h. getD-set-other xs n i (f n) d (λ q. omega arith) ∙ was i h) (getD-set-same xs n (f n) d l)
+
+-- n candidates are set, in arrays of 256 places
+pub record Arranging (n : ℕ) (order lo hi : List ℕ) (cost : List ℤ) (los his : List ℕ) (costs : List ℤ) : Type 0 where
+  pub so-far : Arranged n order lo hi cost los his costs
+  pub lo-places : length los ≡ 256
+  pub hi-places : length his ≡ 256
+  pub cost-places : length costs ≡ 256
+
+pub arranging-none :
+    (order lo hi : List ℕ) (cost : List ℤ) (los his : List ℕ) (costs : List ℤ)
+    → length los ≡ 256 → length his ≡ 256 → length costs ≡ 256 → Arranging 0 order lo hi cost los his costs
+arranging-none order lo hi cost los his costs l h c = record {
+  so-far = record { lower = filled-none _ los; upper = filled-none _ his; paid = λ i l. absurd (omega arith) };
+  lo-places = l;
+  hi-places = h;
+  cost-places = c;
+}
+
+pub arranging-more :
+    {n : ℕ} {order lo hi : List ℕ} {cost : List ℤ} {los his : List ℕ} {costs : List ℤ}
+    → Arranging n order lo hi cost los his costs → n < 256
+    → Arranging (n + 1) order lo hi cost (set los n (at lo (at order n))) (set his n (at hi (at order n))) (set costs n (getD cost (at order n) (pos 0)))
+arranging-more {n} {order} {lo} {hi} {cost} {los} {his} {costs} was l = record {
+  so-far = record {
+    lower = filled-more _ (was .so-far .lower) (omega arith) refl;
+    upper = filled-more _ (was .so-far .upper) (omega arith) refl;
+    paid = stored (λ i. getD cost (at order i) (pos 0)) costs (pos 0) (was .so-far .paid) (omega arith);
+  };
+  lo-places = length-set los n _ ∙ was .lo-places;
+  hi-places = length-set his n _ ∙ was .hi-places;
+  cost-places = length-set costs n _ ∙ was .cost-places;
+}
+
+-- n are put back, in an array of 256 places
+pub record PuttingBack (n : ℕ) (place : List ℕ) (keeps kept : List Bool) : Type 0 where
+  pub so-far : PutBack n place keeps kept
+  pub places : length kept ≡ 256
+
+pub putting-none : (place : List ℕ) (keeps kept : List Bool) → length kept ≡ 256 → PuttingBack 0 place keeps kept
+putting-none place keeps kept all = record { so-far = record { is = λ r l. absurd (omega arith) }; places = all }
+
+pub putting-more : {n : ℕ} {place : List ℕ} {keeps kept : List Bool} → PuttingBack n place keeps kept → n < 256 → PuttingBack (n + 1) place keeps (set kept n (flag keeps (at place n)))
+putting-more {n} {place} {keeps} {kept} was l = record {
+  so-far = record { is = stored (λ r. flag keeps (at place r)) kept false (was .so-far .is) (omega arith) };
+  places = length-set kept n _ ∙ was .places;
+}

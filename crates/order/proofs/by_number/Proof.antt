@@ -1,0 +1,52 @@
+-- Each turn fills one place with its own number. Assumes nothing.
+use mathlib.Core.Path.{_≡_, refl}
+use Prim.Native.Nat.{_-_, _≤_}
+use native.Mathlib.Omega.{arith}
+use lib.ListN.{length, length-set}
+use Rattle.sums.specs.Filled.{Filled, filled-none, filled-more}
+use Rattle.order.proofs.by_number.Statement.{statement}
+use Rattle.order.proofs.by_number.Tie as tie
+
+abbrev Inv-loop : tie.InvT-loop
+Inv-loop count order₀ i₀ order i = (i ≤ count) × (length order ≡ 256) × Filled (λ i. i) i order
+
+abbrev μ-loop : tie.MeasureT-loop
+μ-loop count order₀ i₀ order i = count - i
+
+loop-holds : tie.Need-loop-holds Inv-loop μ-loop
+loop-holds c = (omega arith, omega arith, filled-none _ _)
+
+mul-order : tie.Need-mul-order Inv-loop μ-loop
+mul-order c = omega arith
+
+element-write-order : tie.Need-element-write-order Inv-loop μ-loop
+element-write-order c = omega arith
+
+add-i : tie.Need-add-i Inv-loop μ-loop
+add-i c = omega arith
+
+loop-less : tie.Need-loop-less Inv-loop μ-loop
+loop-less c = omega arith
+
+loop-again : tie.Need-loop-again Inv-loop μ-loop
+loop-again c = (omega arith, simp length-set (omega arith), filled-more _ (c .before .loop .inv .2) (omega arith) refl)
+
+returns : tie.Need-returns Inv-loop μ-loop
+returns c =
+    let l = c .before .loop in
+    let all : l .i ≡ c .before .before .before .before .args .count = omega arith in
+    rw all at (l .inv .2)
+
+pub by-number-spec : {M : Type 1} → statement M
+by-number-spec =
+    tie.close
+    (tie.spec
+    Inv-loop
+    μ-loop
+    loop-holds
+    mul-order
+    element-write-order
+    add-i
+    loop-less
+    loop-again
+    returns)
