@@ -6,10 +6,10 @@ use Rattle.order.proofs.weigh.Statement.{statement}
 use Rattle.order.proofs.weigh.Tie as tie
 
 abbrev Inv-loop : tie.InvT-loop
-Inv-loop count lo hi profit worths₀ top₀ i₀ worths top i = i ≤ count
+Inv-loop count lo hi profit least lift worths₀ top₀ i₀ worths top i = i ≤ count
 
 abbrev μ-loop : tie.MeasureT-loop
-μ-loop count lo hi profit worths₀ top₀ i₀ worths top i = count - i
+μ-loop count lo hi profit least lift worths₀ top₀ i₀ worths top i = count - i
 
 loop-holds : tie.Need-loop-holds Inv-loop μ-loop
 loop-holds c = omega arith
