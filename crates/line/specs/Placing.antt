@@ -1,12 +1,17 @@
 -- Prices that go to their places through a map: one store a turn, and a one-to-one map's stores do not disturb each other. Assumes nothing.
 use mathlib.Core.Path.{_≡_, refl, sym, subst, _∙_}
+use mathlib.Core.Bool.{true, false}
 use mathlib.Core.List.{List, _++_}
-use Prim.Native.Nat.{ℕ, _+_, _<_}
+use mathlib.Core.Logic.{⊎-elim}
+use Prim.Native.Nat.{ℕ, _+_, _≤_, _<_}
 use native.Mathlib.Omega.{arith}
 use borrow.Author.Count.{below-more}
+use borrow.Author.Tests.{eqb-true, eq-eqb}
 use lib.ListN.{length, set, length-set, List·getD-append}
 use lib.Seq.{getD-set-same, getD-set-other}
 use lib.IntN.{ℤ}
+use lib.Dec.{eqb}
+use Rattle.sums.specs.Each.{some, some-at, some-of, of-yes, decided}
 use Rattle.sums.specs.Filled.{Filled}
 use Rattle.book.specs.Columns.{at}
 use Rattle.line.specs.Steps.{Falling}
@@ -42,6 +47,25 @@ placed-more {f} {cells} {n} {place} {before} {now} v to was l e = record {
       (getD-set-same now (at place n) v 0 (omega (arith, to .in-list n l, was .as-long)) ∙ e);
   others = λ p h. getD-set-other now (at place n) p v 0 (λ q. h n (omega arith) (sym q)) ∙ was .others p (λ j k. h j (omega arith));
 }
+
+-- ---- prices that are not too high
+
+-- no price is above 1,000,000 (a list has 0 past its end)
+pub record LowPrices (prices : List ℕ) : Type 0 where
+  pub upto : (s : ℕ) → at prices s ≤ 1000000
+
+-- a place is that of some cell, or has what it had
+pub placed-low :
+    {f : ℕ → ℕ} {place before after : List ℕ} {n : ℕ} → ((j : ℕ) → f j ≤ 1000000) → Placed f place n before after → LowPrices before → LowPrices after
+placed-low {f} {place} {before} {after} {n} low p was = record { upto = λ s. ⊎-elim (of-cell s) (of-none s) (decided (some n (λ j. eqb (at place j) s))) }
+  where
+    of-cell : (s : ℕ) → some n (λ j. eqb (at place j) s) ≡ true → at after s ≤ 1000000
+    of-cell s e =
+        let (j, l, q) = some-at n _ e in
+        rw (← eqb-true (at place j) s q, p .is j l) (low j)
+
+    of-none : (s : ℕ) → some n (λ j. eqb (at place j) s) ≡ false → at after s ≤ 1000000
+    of-none s e = rw (p .others s (λ j l q. of-yes (sym e ∙ some-of n _ j l (eq-eqb (at place j) s q)))) (was .upto s)
 
 -- ---- a line's own map, where cell j goes to place j of a part with as many places as there are cells
 

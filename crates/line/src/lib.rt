@@ -4,8 +4,10 @@ mod cells;
 mod entries;
 
 ghost use mathlib.Core.Path.{_≡_};
+ghost use Prim.Native.Nat.{_-_};
 ghost use Rattle.rules.specs.Best.{best};
 ghost use Rattle.line.specs.Promise.{CanPlanLine, LinePlanned};
+ghost use Rattle.line.specs.Placing.{OneToOne, LowPrices};
 use channels::Given;
 
 // What planning a line comes to: what it earns and how many are kept, or the request for which no channel was left (refusal 15).
@@ -21,7 +23,7 @@ pub struct LinePlan {
     pub prices: [usize; 64],
 }
 
-// The most that any plan on this line earns.
+// The most that any plan on this line earns. The price of each cell goes to its place in `prices`.
 pub fn best_earnings(
     nodes: usize,
     channels: usize,
@@ -30,9 +32,13 @@ pub fn best_earnings(
     a: &[usize; 256],
     b: &[usize; 256],
     profit: &[usize; 256],
+    place: &[usize; 128],
+    prices: &mut [usize; 64],
 ) -> usize
     requires { ⌜ CanPlanLine nodes channels count (now limits) (now a) (now b) (now profit) ⌝ }
+    requires { ⌜ OneToOne (nodes - 1) (now place) (now prices) ⌝ }
     ensures { λ r. ⌜ ((w : CanPlanLine nodes channels count (now (limits .entry)) (now (a .entry)) (now (b .entry)) (now (profit .entry))) → r ≡ best (w .book)) ⌝ }
+    ensures { λ r. ⌜ (LowPrices (now (prices .entry)) → LowPrices (now (prices .exit))) ⌝ }
 {
     let mut lo = [0usize; 256];
     let mut hi = [0usize; 256];
@@ -40,8 +46,9 @@ pub fn best_earnings(
     let mut room = [0usize; 128];
     let mut kept = [false; 256];
     let mut dist = [0i64; 128];
+    let spans = nodes - 1;
     cells::solve(
-        nodes - 1,
+        spans,
         count,
         limits,
         a,
@@ -54,6 +61,7 @@ pub fn best_earnings(
         &mut kept,
         &mut dist,
     );
+    cells::price(spans, &dist, place, prices);
     entries::earned(count, &kept, profit)
 }
 

@@ -1,7 +1,7 @@
 -- The loop over the cuts: the best so far is the lowest-numbered one with the greatest earnings among the cuts that were tried. Assumes nothing.
 use mathlib.Core.Path.{_≡_, sym, ap, subst, _∙_}
 use mathlib.Core.Logic.{⊎-elim}
-use Prim.Native.Nat.{ℕ, suc, _+_, _≤_, _<_}
+use Prim.Native.Nat.{ℕ, suc, _+_, _≤_, _<_, max}
 use native.Mathlib.Nat.{eq-or-lt-of-le}
 use native.Mathlib.Omega.{arith}
 use Rattle.book.specs.Book.{Book, spans}
@@ -20,7 +20,7 @@ pub record BestBelow (book : Book) (j best top : ℕ) : Type 0 where
 pub best-first : {book : Book} {top : ℕ} → top ≡ cutBest book 0 → BestBelow book 1 0 top
 best-first {book} e = record { tried = omega arith; earns = e; most = λ i l. let q : i ≡ 0 = omega arith in omega (arith, ap (cutBest book) q); lowest = λ i l. absurd (omega arith) }
 
-module _ {book : Book} {j best top earned : ℕ} (b : BestBelow book j best top) (e : earned ≡ cutBest book j) where
+module _ {book : Book} {j best top earned : ℕ} (b : BestBelow book j best top) (e : earned ≡ max top (cutBest book j)) where
   each-tried : (t : ℕ) → top ≤ t → earned ≤ t → (i : ℕ) → i < j + 1 → cutBest book i ≤ t
   each-tried t h k i l = ⊎-elim (λ (q : i ≡ j). omega (arith, ap (cutBest book) q)) (λ (m : i < j). omega (arith, b .most i m)) (eq-or-lt-of-le (below l))
     where
@@ -28,7 +28,7 @@ module _ {book : Book} {j best top earned : ℕ} (b : BestBelow book j best top)
       below m = omega arith
 
   pub best-better : top < earned → BestBelow book (j + 1) j earned
-  best-better h = record { tried = omega arith; earns = e; most = each-tried earned (omega arith) (omega arith); lowest = λ i l. omega (arith, b .most i l) }
+  best-better h = record { tried = omega arith; earns = omega (arith, e); most = each-tried earned (omega arith) (omega arith); lowest = λ i l. omega (arith, b .most i l) }
 
   pub best-stays : earned ≤ top → BestBelow book (j + 1) best top
   best-stays h = record { tried = omega (arith, b .tried); earns = b .earns; most = each-tried top (omega arith) h; lowest = b .lowest }

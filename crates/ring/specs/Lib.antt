@@ -1,3 +1,4 @@
 pub mod Promise
 pub mod Turned
 pub mod Choosing
+pub mod Known

@@ -2,7 +2,7 @@
 -- Assumes nothing.
 use mathlib.Core.List.{List}
 use mathlib.Core.Bool.{true}
-use mathlib.Core.Path.{_≡_, ap₂, subst, _∙_}
+use mathlib.Core.Path.{_≡_, refl, ap₂, subst, _∙_}
 use Prim.Native.Nat.{ℕ, _+_, _-_, _≤_, _<_}
 use native.Mathlib.Omega.{arith}
 use Rattle.sums.specs.Filled.{Filled}
@@ -67,6 +67,10 @@ module _ {nodes channels count : ℕ} {limits a b profits : List ℕ} (w : CanPl
             channels-is = w .channels-is;
             holds = turned-line;
           }
+
+      pub cut-best : cutBest (w .book) j ≡ best (cut-plannable .book)
+      unfolding cut-plannable cutBest
+      cut-best = refl
 
       -- what the line planner says of the turned columns, it says of the cut's line
       pub cut-earned : {r : ℕ} → ((v : CanPlanLine nodes channels count limits′ a′ b′ profits) → r ≡ best (v .book)) → r ≡ cutBest (w .book) j

@@ -1,7 +1,10 @@
 // The plan on a ring (document 01, "What the planner hands back"): each span is cut in turn, and the best plan of the best line that is left is handed back.
+mod known;
+
 ghost use mathlib.Core.Path.{_≡_};
-ghost use Prim.Native.Nat.{_<_};
+ghost use Prim.Native.Nat.{_≤_, _<_, max};
 ghost use Rattle.rules.specs.Cuts.{cut, cutBest};
+ghost use Rattle.line.specs.Placing.{LowPrices};
 ghost use Rattle.ring.specs.Promise.{CanPlanRing, RingPlanned};
 
 // The answer, the cut, and an entry for each request: those of the plan of the line which the cut leaves.
@@ -11,7 +14,34 @@ pub struct RingPlan {
     pub entries: [usize; 256],
 }
 
-// What the line which cut j leaves can earn.
+// No less than what the line which cut j leaves can earn: the ceiling of the known prices on it.
+fn cut_ceiling(
+    j: usize,
+    nodes: usize,
+    channels: usize,
+    count: usize,
+    limits: &[usize; 64],
+    a: &[usize; 256],
+    b: &[usize; 256],
+    profit: &[usize; 256],
+    known: &[usize; 64],
+) -> usize
+    requires { ⌜ CanPlanRing nodes channels count (now limits) (now a) (now b) (now profit) ⌝ }
+    requires { ⌜ (j < nodes) × LowPrices (now known) ⌝ }
+    ensures { λ r. ⌜ ((w : CanPlanRing nodes channels count (now (limits .entry)) (now (a .entry)) (now (b .entry)) (now (profit .entry))) → cutBest (w .book) j ≤ r) ⌝ }
+{
+    let mut turned = [0usize; 64];
+    let mut from = [0usize; 256];
+    let mut to = [0usize; 256];
+    let mut prices = [0usize; 64];
+    turn::turn_limits(nodes, j, limits, &mut turned);
+    turn::turn_ends(nodes, j, count, a, &mut from);
+    turn::turn_ends(nodes, j, count, b, &mut to);
+    turn::turn_limits(nodes, j, known, &mut prices);
+    ceiling::ceiling_of(nodes - 1, count, &turned, &from, &to, profit, &prices)
+}
+
+// What the line which cut j leaves can earn. Its prices become the known ones.
 fn cut_earnings(
     j: usize,
     nodes: usize,
@@ -21,18 +51,46 @@ fn cut_earnings(
     a: &[usize; 256],
     b: &[usize; 256],
     profit: &[usize; 256],
+    known: &mut [usize; 64],
 ) -> usize
     requires { ⌜ CanPlanRing nodes channels count (now limits) (now a) (now b) (now profit) ⌝ }
-    requires { ⌜ j < nodes ⌝ }
+    requires { ⌜ (j < nodes) × LowPrices (now known) ⌝ }
     ensures { λ r. ⌜ ((w : CanPlanRing nodes channels count (now (limits .entry)) (now (a .entry)) (now (b .entry)) (now (profit .entry))) → r ≡ cutBest (w .book) j) ⌝ }
+    ensures { λ r. ⌜ LowPrices (now (known .exit)) ⌝ }
 {
-    let mut turned = [0usize; 64];
+    let mut limit = [0usize; 64];
     let mut from = [0usize; 256];
     let mut to = [0usize; 256];
-    turn::turn_limits(nodes, j, limits, &mut turned);
+    turn::turn_limits(nodes, j, limits, &mut limit);
     turn::turn_ends(nodes, j, count, a, &mut from);
     turn::turn_ends(nodes, j, count, b, &mut to);
-    line::best_earnings(nodes, channels, count, &turned, &from, &to, profit)
+    known::best_earnings(j, nodes, channels, count, &limit, &from, &to, profit, known)
+}
+
+// The higher of `top` and what the line which cut j leaves can earn. Where even its ceiling is not above `top`, that line is not planned.
+fn raised(
+    top: usize,
+    j: usize,
+    nodes: usize,
+    channels: usize,
+    count: usize,
+    limits: &[usize; 64],
+    a: &[usize; 256],
+    b: &[usize; 256],
+    profit: &[usize; 256],
+    known: &mut [usize; 64],
+) -> usize
+    requires { ⌜ CanPlanRing nodes channels count (now limits) (now a) (now b) (now profit) ⌝ }
+    requires { ⌜ (j < nodes) × LowPrices (now known) ⌝ }
+    ensures { λ r. ⌜ ((w : CanPlanRing nodes channels count (now (limits .entry)) (now (a .entry)) (now (b .entry)) (now (profit .entry))) → r ≡ max top (cutBest (w .book) j)) ⌝ }
+    ensures { λ r. ⌜ LowPrices (now (known .exit)) ⌝ }
+{
+    let above = cut_ceiling(j, nodes, channels, count, limits, a, b, profit, known);
+    if above <= top {
+        return top;
+    }
+    let earned = cut_earnings(j, nodes, channels, count, limits, a, b, profit, known);
+    known::higher(top, earned)
 }
 
 // The lowest-numbered span whose line has the greatest best earnings.
@@ -48,11 +106,23 @@ fn best_cut(
     requires { ⌜ CanPlanRing nodes channels count (now limits) (now a) (now b) (now profit) ⌝ }
     ensures { λ r. ⌜ ((w : CanPlanRing nodes channels count (now (limits .entry)) (now (a .entry)) (now (b .entry)) (now (profit .entry))) → r ≡ cut (w .book)) ⌝ }
 {
+    let mut known = [0usize; 64];
     let mut best = 0;
-    let mut top = cut_earnings(0, nodes, channels, count, limits, a, b, profit);
+    let mut top = cut_earnings(0, nodes, channels, count, limits, a, b, profit, &mut known);
     let mut j = 1;
     while j < nodes {
-        let earned = cut_earnings(j, nodes, channels, count, limits, a, b, profit);
+        let earned = raised(
+            top,
+            j,
+            nodes,
+            channels,
+            count,
+            limits,
+            a,
+            b,
+            profit,
+            &mut known,
+        );
         if top < earned {
             top = earned;
             best = j;

@@ -18,7 +18,7 @@ fn steps(n: usize, u: usize, v: usize) -> usize
 }
 
 // The span at place t of the line which cut j leaves.
-fn span_at(n: usize, j: usize, t: usize) -> usize
+pub fn span_at(n: usize, j: usize, t: usize) -> usize
     requires { ⌜ (j < n) × (t < n) × (n ≤ 64) ⌝ }
     ensures { λ r. ⌜ r ≡ C.spanAt n j t ⌝ }
 {

@@ -1,21 +1,35 @@
--- What solves the row is a best set, so its profits are the best earnings of whatever line the columns hold. Assumes nothing.
+-- What solves the row is a best set, so its profits are the best earnings of whatever line the columns hold; and the prices are cut down. Assumes nothing.
 use mathlib.Core.Path.{_∙_}
+use native.Mathlib.Omega.{arith}
 use borrow.Author.Needs.{needs}
-use Rattle.line.specs.Promised.{can-solve, sum-best}
+use Rattle.row.specs.Clamp.{clamp}
+use Rattle.line.specs.Promised.{can-solve, falling, sum-best}
+use Rattle.line.specs.Placing.{placed-low}
 use Rattle.line.proofs.best_earnings.Statement.{statement}
 use Rattle.line.proofs.best_earnings.Tie as tie
 
-sub-solve : tie.Need-sub-solve
-sub-solve c = search needs
+sub-spans : tie.Need-sub-spans
+sub-spans c = search needs
 
 solve-requires : tie.Need-solve-requires
-solve-requires c κs = can-solve (c .before .before .before .before .before .before .pre)
+solve-requires c κs = can-solve (c .before .before .before .before .before .before .pre .0)
+
+price-requires : tie.Need-price-requires
+price-requires c κs =
+    let s = c .before .before in
+    let pre = s .before .before .before .before .before .before .before .pre in
+    record { falling = falling (pre .0) (s .solve .ensures); places = pre .1 }
 
 earned-requires : tie.Need-earned-requires
-earned-requires c κs = can-solve (c .before .before .before .before .before .before .before .before .pre) .profits-are
+earned-requires c κs =
+    let s = c .before .before .before .before in
+    can-solve (s .before .before .before .before .before .before .before .pre .0) .profits-are
 
 returns : tie.Need-returns
-returns c = λ w. c .earned .ensures ∙ sum-best w (c .before .before .solve .ensures)
+unfolding clamp
+returns c =
+    let s = c .before .before .before .before .before in
+    (λ w. c .earned .ensures ∙ sum-best w (s .solve .ensures), placed-low (λ j. omega arith) (c .before .before .price .ensures))
 
 pub best-earnings-spec : {M : Type 1} → statement M
-best-earnings-spec = tie.close (tie.spec sub-solve solve-requires earned-requires returns)
+best-earnings-spec = tie.close (tie.spec sub-spans solve-requires price-requires earned-requires returns)

@@ -1,45 +1,53 @@
--- `ring::best_cut` meets its contract: the best so far is the lowest of the greatest among the cuts tried; a cut that earns more takes its place. Each turn
--- leaves one cut fewer. Assumes nothing.
+-- `ring::best_cut` meets its contract: the best so far is the lowest of the greatest among the cuts tried; a cut that earns more takes its place, and
+-- one that is passed over does not earn more. Each turn leaves one cut fewer. Assumes nothing.
 use mathlib.Core.Logic.{⊎-elim}
 use mathlib.Core.Path.{_≡_}
 use Prim.Native.Nat.{ℕ, _+_, _-_, _≤_, _<_}
 use native.Mathlib.Omega.{arith}
+use Rattle.line.specs.Placing.{LowPrices}
 use Rattle.ring.specs.Promise.{CanPlanRing}
 use Rattle.ring.specs.Turned.{few-nodes, some-nodes}
+use Rattle.ring.specs.Known.{low-none}
 use Rattle.ring.specs.Choosing.{BestBelow, best-first, best-better, best-stays, best-chosen}
 use Rattle.ring.proofs.best_cut.Statement.{statement}
 use Rattle.ring.proofs.best_cut.Tie as tie
 
 abbrev Inv-loop : tie.InvT-loop
-Inv-loop nodes channels count limits a b profit best₀ top₀ j₀ best top j = (1 ≤ j) × (j ≤ nodes) × ((w : CanPlanRing nodes channels count limits a b profit) → BestBelow (w .book) j best top)
+Inv-loop nodes channels count limits a b profit known₀ best₀ top₀ j₀ known best top j =
+    (1 ≤ j) × (j ≤ nodes) × ((w : CanPlanRing nodes channels count limits a b profit) → BestBelow (w .book) j best top) × LowPrices known
 
 abbrev μ-loop : tie.MeasureT-loop
-μ-loop nodes channels count limits a b profit best₀ top₀ j₀ best top j = nodes - j
+μ-loop nodes channels count limits a b profit known₀ best₀ top₀ j₀ known best top j = nodes - j
 
 cut-earnings-requires : tie.Need-cut-earnings-requires Inv-loop μ-loop
-cut-earnings-requires c κs = (c .pre, omega (arith, some-nodes (c .pre)))
+cut-earnings-requires c κs = (c .before .pre, (omega (arith, some-nodes (c .before .pre)), low-none))
 
 loop-holds : tie.Need-loop-holds Inv-loop μ-loop
-loop-holds c = (omega arith, omega (arith, some-nodes (c .before .pre)), λ w. best-first (c .cut-earnings .ensures w))
+loop-holds c =
+    let e = c .cut-earnings .ensures in
+    (omega arith, omega (arith, some-nodes (c .before .before .pre)), λ w. best-first (e .0 w), e .1)
 
-cut-earnings-requires-2 : tie.Need-cut-earnings-requires-2 Inv-loop μ-loop
-cut-earnings-requires-2 c κs = (c .before .before .before .pre, omega arith)
+raised-requires : tie.Need-raised-requires Inv-loop μ-loop
+raised-requires c κs =
+    let l = c .before .before in
+    (l .before .before .before .pre, (omega arith, l .loop .inv .3))
 
 add-j : tie.Need-add-j Inv-loop μ-loop
-add-j c = omega (arith, few-nodes (c .before .before .before .before .before .pre))
+add-j c = omega (arith, few-nodes (c .before .before .before .before .before .before .before .pre))
 
 loop-less : tie.Need-loop-less Inv-loop μ-loop
 loop-less c = omega arith
 
 loop-again : tie.Need-loop-again Inv-loop μ-loop
 loop-again c =
-    let l = c .before .before .before .loop in
-    let tried = c .before .cut-earnings2 .ensures in (
+    let l = c .before .before .before .before .loop in
+    let tried = c .before .raised .ensures in (
       omega arith,
       omega arith,
       λ w.
-          ⊎-elim (λ x. rw (x .1, x .2) (best-better (l .inv .2 w) (tried w) (x .0 .taken))) (λ x. rw (x .1, x .2) (best-stays (l .inv .2 w) (tried w) (x .0 .left)))
+          ⊎-elim (λ x. rw (x .1, x .2) (best-better (l .inv .2 w) (tried .0 w) (x .0 .taken))) (λ x. rw (x .1, x .2) (best-stays (l .inv .2 w) (tried .0 w) (x .0 .left)))
           (c .if1 .came),
+      tried .1,
     )
 
 returns : tie.Need-returns Inv-loop μ-loop
@@ -53,7 +61,7 @@ best-cut-spec =
     μ-loop
     cut-earnings-requires
     loop-holds
-    cut-earnings-requires-2
+    raised-requires
     add-j
     loop-less
     loop-again

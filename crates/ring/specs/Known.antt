@@ -1,0 +1,70 @@
+-- Prices known from other cuts: whatever they are, up to 1,000,000, their ceiling on the line which cut j leaves is not below what that line can earn.
+-- Assumes nothing.
+use mathlib.Core.List.{List}
+use mathlib.Core.Logic.{⊎-elim}
+use mathlib.Core.Path.{_≡_, refl, sym, ap, _∙_}
+use Prim.Native.Nat.{ℕ, zero, suc, _+_, _-_, _≤_, _<_}
+use native.Mathlib.Omega.{arith}
+use lib.ListN.{length, set, replicate}
+use lib.Seq.{getD-set-same, getD-set-other}
+use Rattle.sums.specs.Each.{same-or-not}
+use Rattle.sums.specs.Filled.{Filled}
+use Rattle.book.specs.Columns.{at}
+use Rattle.rules.specs.Prices.{ceiling}
+use Rattle.rules.specs.Cuts.{steps, spanAt, cutBest}
+use Rattle.rings.specs.Turn.{span-below, place-of-span}
+use Rattle.lines.specs.Ways.{line-spans}
+use Rattle.ceiling.specs.PricedLine.{PricedLine}
+use Rattle.ceiling.specs.Above.{best-upto-ceiling}
+use Rattle.line.specs.Placing.{OneToOne, LowPrices}
+use Rattle.ring.specs.Promise.{CanPlanRing}
+use Rattle.ring.specs.Turned.{cut-plannable, cut-best}
+
+-- no prices yet
+no-price : (n s : ℕ) → at (replicate n 0) s ≡ 0
+no-price zero s = refl
+no-price (suc n) zero = refl
+no-price (suc n) (suc s) = no-price n s
+
+pub low-none : LowPrices (replicate 64 0)
+low-none = record { upto = λ s. omega (arith, no-price 64 s) }
+
+-- one price more that is not too high
+pub low-more : {prices : List ℕ} {j v : ℕ} → j < length prices → v ≤ 1000000 → LowPrices prices → LowPrices (set prices j v)
+low-more {prices} {j} {v} l h was = record {
+  upto = λ s. ⊎-elim
+      (λ (q : j ≡ s). rw (← q, getD-set-same prices j v 0 l) h)
+      (λ (q : j ≡ s → ⊥). rw (getD-set-other prices j s v 0 (λ e. q (sym e))) (was .upto s))
+      (same-or-not j s);
+}
+
+-- no two places of the line are the same span of the ring
+pub ring-places :
+    {nodes j : ℕ} {place known : List ℕ} → j < nodes → nodes ≤ 64 → Filled (spanAt nodes j) (nodes - 1) place → length known ≡ 64
+    → OneToOne (nodes - 1) place known
+ring-places {nodes} {j} cut few map long = record {
+  in-list = λ t l. omega (arith, map .is t l, span-below nodes j cut t (omega arith));
+  own = λ t u l h q.
+      sym (place-of-span nodes j cut t (omega arith)) ∙ ap (steps nodes (j + 1)) (sym (map .is t l) ∙ q ∙ map .is u h) ∙ place-of-span nodes j cut u (omega arith);
+}
+
+module _ {nodes channels count : ℕ} {limits a b profits : List ℕ} (w : CanPlanRing nodes channels count limits a b profits) (j : ℕ) (cut : j < nodes)
+    {limits′ a′ b′ prices known : List ℕ}
+    (turned : Filled (λ t. at limits (spanAt nodes j t)) (nodes - 1) limits′) (from : Filled (λ i. steps nodes (j + 1) (at a i)) count a′)
+    (to : Filled (λ i. steps nodes (j + 1) (at b i)) count b′) (priced : Filled (λ t. at known (spanAt nodes j t)) (nodes - 1) prices)
+    (low : LowPrices known)
+  where
+    pub cut-priced : PricedLine (nodes - 1) count limits′ a′ b′ profits prices
+    cut-priced =
+        let v = cut-plannable w j cut turned from to in
+        record {
+          book = v .book;
+          held = record { line = v .line; spans-is = omega (arith, v .nodes-is, line-spans (v .line)); holds = v .holds };
+          price-upto = λ t l. omega (arith, priced .is t l, low .upto (spanAt nodes j t));
+        }
+
+    pub cut-bounded : {r : ℕ} → ((v : PricedLine (nodes - 1) count limits′ a′ b′ profits prices) → r ≡ ceiling (v .book) (at prices)) → cutBest (w .book) j ≤ r
+    unfolding cut-priced
+    cut-bounded says =
+        let v = cut-plannable w j cut turned from to in
+        omega (arith, cut-best w j cut turned from to, says cut-priced, best-upto-ceiling (v .line) (at prices))
