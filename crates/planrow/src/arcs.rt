@@ -1,4 +1,4 @@
-// The arcs out of a node that has been settled, and the labels that they shorten. Every function here is lent the whole ground of the search, so
+// The arcs out of a node that has been settled, and the labels that they shorten. Every function that spreads is lent the whole ground of the search, so
 // that one record says what it is.
 ghost use mathlib.Core.Path.{_≡_};
 ghost use Prim.Native.Nat.{suc, _+_, _≤_, _<_};

@@ -1,14 +1,14 @@
 -- The loop over the cuts: the best so far is the lowest-numbered one with the greatest earnings among the cuts that were tried. Assumes nothing.
-use mathlib.Core.Path.{_≡_, sym, ap, subst, _∙_}
+use mathlib.Core.Path.{_≡_, sym, ap}
 use mathlib.Core.Logic.{⊎-elim}
-use Prim.Native.Nat.{ℕ, suc, _+_, _≤_, _<_, max}
+use Prim.Native.Nat.{ℕ, _+_, _≤_, _<_, max}
 use native.Mathlib.Nat.{eq-or-lt-of-le}
 use native.Mathlib.Omega.{arith}
-use Rattle.book.specs.Book.{Book, spans}
+use Rattle.book.specs.Book.{Book}
 use Rattle.rules.specs.Cuts.{cutBest, cut}
 use Rattle.rings.specs.Ring.{Ring}
 use Rattle.rings.specs.CutLine.{ring-spans}
-use Rattle.rings.specs.Choice.{Chosen, cut-once}
+use Rattle.rings.specs.Choice.{cut-once}
 
 -- of the cuts below j
 pub record BestBelow (book : Book) (j best top : ℕ) : Type 0 where

@@ -1,8 +1,8 @@
 -- What planning a ring promises, in the words of 01. Assumes nothing.
-use mathlib.Core.Bool.{Bool, true}
+use mathlib.Core.Bool.{true}
 use mathlib.Core.List.{List}
 use mathlib.Core.Path.{_≡_}
-use Prim.Native.Nat.{ℕ, _≤_, _<_}
+use Prim.Native.Nat.{ℕ}
 use Rattle.book.specs.Book.{Book}
 use Rattle.book.specs.Columns.{at, Holds}
 use Rattle.rules.specs.Plans.{obeys, numberKept, earnings, Best}

@@ -11,7 +11,6 @@ use lib.Dec.{leb, ltb, eqb}
 use Rattle.sums.specs.Each.{each, each-at, each-of, left-of, decided, of-yes}
 use Rattle.sums.specs.Sums.{bit, when-no, Σ-ext}
 use Rattle.sums.specs.Tests.{implied}
-use Rattle.sums.specs.Filled.{Filled}
 use Rattle.book.specs.Bytes.{entryIn}
 use Rattle.book.specs.Book as Books
 use Rattle.book.specs.Book.{Book, limit, endA, endB}

@@ -13,26 +13,11 @@ Inv-loop spans limits prices toll₀ sum₀ rented₀ s₀ toll sum rented s = (
 abbrev μ-loop : tie.MeasureT-loop
 μ-loop spans limits prices toll₀ sum₀ rented₀ s₀ toll sum rented s = spans - s
 
-element-write-toll : tie.Need-element-write-toll Inv-loop μ-loop
-element-write-toll c = omega arith
-
 loop-holds : tie.Need-loop-holds Inv-loop μ-loop
 loop-holds c = (omega arith, tolling-none (c .before .before .args .toll .now) (omega arith))
 
-mul-price : tie.Need-mul-price Inv-loop μ-loop
-mul-price c = omega arith
-
-element-copy-out-price : tie.Need-element-copy-out-price Inv-loop μ-loop
-element-copy-out-price c = omega arith
-
 add-sum : tie.Need-add-sum Inv-loop μ-loop
 add-sum c = omega (arith, c .before .before .before .before .before .pre .price-upto (c .before .before .loop .s) (omega arith))
-
-mul-rented : tie.Need-mul-rented Inv-loop μ-loop
-mul-rented c = omega arith
-
-element-copy-out-rented : tie.Need-element-copy-out-rented Inv-loop μ-loop
-element-copy-out-rented c = omega arith
 
 -- what the span at hand adds
 one-upto :
@@ -49,21 +34,6 @@ mul-rented-2 c = omega (arith, one-upto c)
 
 add-rented : tie.Need-add-rented Inv-loop μ-loop
 add-rented c = omega (arith, one-upto c)
-
-add-toll : tie.Need-add-toll Inv-loop μ-loop
-add-toll c = omega arith
-
-mul-toll : tie.Need-mul-toll Inv-loop μ-loop
-mul-toll c = omega arith
-
-element-write-toll-2 : tie.Need-element-write-toll-2 Inv-loop μ-loop
-element-write-toll-2 c = omega arith
-
-add-s : tie.Need-add-s Inv-loop μ-loop
-add-s c = omega arith
-
-loop-less : tie.Need-loop-less Inv-loop μ-loop
-loop-less c = omega arith
 
 loop-again : tie.Need-loop-again Inv-loop μ-loop
 loop-again c =
@@ -82,19 +52,19 @@ rent-spec =
     (tie.spec
     Inv-loop
     μ-loop
-    element-write-toll
+    (λ c. omega arith)
     loop-holds
-    mul-price
-    element-copy-out-price
+    (λ c. omega arith)
+    (λ c. omega arith)
     add-sum
-    mul-rented
-    element-copy-out-rented
+    (λ c. omega arith)
+    (λ c. omega arith)
     mul-rented-2
     add-rented
-    add-toll
-    mul-toll
-    element-write-toll-2
-    add-s
-    loop-less
+    (λ c. omega arith)
+    (λ c. omega arith)
+    (λ c. omega arith)
+    (λ c. omega arith)
+    (λ c. omega arith)
     loop-again
     returns)

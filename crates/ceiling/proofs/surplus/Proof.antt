@@ -16,43 +16,16 @@ abbrev μ-loop : tie.MeasureT-loop
 loop-holds : tie.Need-loop-holds Inv-loop μ-loop
 loop-holds c = (omega arith, tallying-none)
 
-mul-cost-of : tie.Need-mul-cost-of Inv-loop μ-loop
-mul-cost-of c = omega arith
-
-element-copy-out-cost-of : tie.Need-element-copy-out-cost-of Inv-loop μ-loop
-element-copy-out-cost-of c = omega arith
-
-mul-cost-of-2 : tie.Need-mul-cost-of-2 Inv-loop μ-loop
-mul-cost-of-2 c = omega arith
-
-element-copy-out-cost-of-2 : tie.Need-element-copy-out-cost-of-2 Inv-loop μ-loop
-element-copy-out-cost-of-2 c = omega arith
-
 cost-of-requires : tie.Need-cost-of-requires Inv-loop μ-loop
 cost-of-requires c κs =
     let pre = c .before .before .before .before .pre in
     (pre .a-upto _ (omega arith), pre .b-upto _ (omega arith), pre .rising _ (omega arith))
-
-mul-gain : tie.Need-mul-gain Inv-loop μ-loop
-mul-gain c = omega arith
-
-element-copy-out-gain : tie.Need-element-copy-out-gain Inv-loop μ-loop
-element-copy-out-gain c = omega arith
-
-gain-requires : tie.Need-gain-requires Inv-loop μ-loop
-gain-requires c κs = search needs
 
 add-sum : tie.Need-add-sum Inv-loop μ-loop
 add-sum c =
     let pre = c .before .before .before .before .before .before .before .pre in
     let l = c .before .before .before .before .before .before .loop in
     omega (arith, c .gain .ensures, pre .profit-upto (l .i) (omega arith), pre .count-upto)
-
-add-i : tie.Need-add-i Inv-loop μ-loop
-add-i c = omega arith
-
-loop-less : tie.Need-loop-less Inv-loop μ-loop
-loop-less c = omega arith
 
 loop-again : tie.Need-loop-again Inv-loop μ-loop
 loop-again c =
@@ -73,16 +46,16 @@ surplus-spec =
     Inv-loop
     μ-loop
     loop-holds
-    mul-cost-of
-    element-copy-out-cost-of
-    mul-cost-of-2
-    element-copy-out-cost-of-2
+    (λ c. omega arith)
+    (λ c. omega arith)
+    (λ c. omega arith)
+    (λ c. omega arith)
     cost-of-requires
-    mul-gain
-    element-copy-out-gain
-    gain-requires
+    (λ c. omega arith)
+    (λ c. omega arith)
+    (λ c κs. search needs)
     add-sum
-    add-i
-    loop-less
+    (λ c. omega arith)
+    (λ c. omega arith)
     loop-again
     returns)

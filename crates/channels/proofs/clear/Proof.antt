@@ -22,18 +22,6 @@ abbrev μ-loop : tie.MeasureT-loop
 loop-holds : tie.Need-loop-holds Inv-loop μ-loop
 loop-holds c = (omega arith, refl, below-none _)
 
-mul-channel : tie.Need-mul-channel Inv-loop μ-loop
-mul-channel c = omega arith
-
-slice-write-channel : tie.Need-slice-write-channel Inv-loop μ-loop
-slice-write-channel c = omega arith
-
-add-j : tie.Need-add-j Inv-loop μ-loop
-add-j c = omega arith
-
-loop-less : tie.Need-loop-less Inv-loop μ-loop
-loop-less c = omega arith
-
 loop-again : tie.Need-loop-again Inv-loop μ-loop
 loop-again c =
     let here = c .before .loop in
@@ -52,10 +40,10 @@ clear-spec =
     Inv-loop
     μ-loop
     loop-holds
-    mul-channel
-    slice-write-channel
-    add-j
-    loop-less
+    (λ c. omega arith)
+    (λ c. omega arith)
+    (λ c. omega arith)
+    (λ c. omega arith)
     loop-again
     same-length
     returns)

@@ -20,15 +20,6 @@ abbrev μ-loop : tie.MeasureT-loop
 loop-holds : tie.Need-loop-holds Inv-loop μ-loop
 loop-holds c = (omega arith, λ cells s. s)
 
-element-copy-out-if1 : tie.Need-element-copy-out-if1 Inv-loop μ-loop
-element-copy-out-if1 c = omega arith
-
-mul-if2 : tie.Need-mul-if2 Inv-loop μ-loop
-mul-if2 c = omega arith
-
-element-copy-out-if2 : tie.Need-element-copy-out-if2 Inv-loop μ-loop
-element-copy-out-if2 c = omega arith
-
 lowest-past-requires : tie.Need-lowest-past-requires Inv-loop μ-loop
 lowest-past-requires c κs =
     let here = c .before .before .before .before .before .before in
@@ -42,18 +33,6 @@ returns c =
     let stage = here .loop .inv .1 (here .before .pre .0) (here .before .pre .1) in
     let enough = turn-enough stage (omega arith) (c .before .before .before .before .before .if1 .taken) (c .before .before .before .if2 .taken) in
     absurd (omega (arith, c .before .lowest-past .ensures))
-
-mul-channel : tie.Need-mul-channel Inv-loop μ-loop
-mul-channel c = omega arith
-
-element-write-channel : tie.Need-element-write-channel Inv-loop μ-loop
-element-write-channel c = omega arith
-
-add-i : tie.Need-add-i Inv-loop μ-loop
-add-i c = omega arith
-
-loop-less : tie.Need-loop-less Inv-loop μ-loop
-loop-less c = omega arith
 
 loop-again : tie.Need-loop-again Inv-loop μ-loop
 loop-again c = (
@@ -78,14 +57,14 @@ give-from-spec =
     Inv-loop
     μ-loop
     loop-holds
-    element-copy-out-if1
-    mul-if2
-    element-copy-out-if2
+    (λ c. omega arith)
+    (λ c. omega arith)
+    (λ c. omega arith)
     lowest-past-requires
     returns
-    mul-channel
-    element-write-channel
-    add-i
-    loop-less
+    (λ c. omega arith)
+    (λ c. omega arith)
+    (λ c. omega arith)
+    (λ c. omega arith)
     loop-again
     returns-2)

@@ -35,12 +35,6 @@ returns c =
     let never : _≡_ {A = ℕ} 0 1 = rw (c .before .before .give-from .ensures .all) at (c .before .match .keys2) in
     absurd (omega arith)
 
-add-v : tie.Need-add-v Inv-loop μ-loop
-add-v c = omega arith
-
-loop-less : tie.Need-loop-less Inv-loop μ-loop
-loop-less c = omega arith
-
 loop-again : tie.Need-loop-again Inv-loop μ-loop
 loop-again c = (omega arith, c .before .before .give-from .ensures .next _ (c .before .before .before .before .before .loop .inv .1))
 
@@ -61,7 +55,7 @@ hand-out-spec =
     enum-told
     enum-told-2
     returns
-    add-v
-    loop-less
+    (λ c. omega arith)
+    (λ c. omega arith)
     loop-again
     returns-2)

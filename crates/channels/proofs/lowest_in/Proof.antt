@@ -28,12 +28,6 @@ returns c =
     let here = c .before .before .before .loop in
     sym (lowest-is _ _ (here .c) (omega arith) (omega arith) (λ l. not-true _ (c .if1 .taken)) (λ d from l. here .inv .2 d l from))
 
-add-c : tie.Need-add-c Inv-loop μ-loop
-add-c c = omega arith
-
-loop-less : tie.Need-loop-less Inv-loop μ-loop
-loop-less c = omega arith
-
 loop-again : tie.Need-loop-again Inv-loop μ-loop
 loop-again c = (omega arith, omega arith, below-more _ _ (c .before .before .before .loop .inv .2) (λ from. not-false _ (c .if1 .left)))
 
@@ -51,7 +45,7 @@ lowest-in-spec =
     loop-holds
     element-copy-out-if1
     returns
-    add-c
-    loop-less
+    (λ c. omega arith)
+    (λ c. omega arith)
     loop-again
     returns-2)

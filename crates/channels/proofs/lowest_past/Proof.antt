@@ -10,11 +10,8 @@ use Rattle.channels.proofs.lowest_past.Tie as tie
 mark-held-requires : tie.Need-mark-held-requires
 mark-held-requires c κs = (c .before .pre .0, (refl, unmarked 128))
 
-lowest-in-requires : tie.Need-lowest-in-requires
-lowest-in-requires c κs = search needs
-
 returns : tie.Need-returns
 returns c = c .lowest-in .ensures ∙ lowest-ext _ _ _ (λ d from upto. c .before .before .mark-held .ensures d from)
 
 pub lowest-past-spec : {M : Type 1} → statement M
-lowest-past-spec = tie.close (tie.spec mark-held-requires lowest-in-requires returns)
+lowest-past-spec = tie.close (tie.spec mark-held-requires (λ c κs. search needs) returns)

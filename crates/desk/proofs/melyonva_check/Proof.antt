@@ -4,18 +4,6 @@ use Rattle.desk.specs.Checking.{packed-yes, packed-no, refused-small, pa
 use Rattle.desk.proofs.melyonva_check.Statement.{statement}
 use Rattle.desk.proofs.melyonva_check.Tie as tie
 
-check-plan-requires : tie.Need-check-plan-requires
-check-plan-requires c κs = search needs
-
-enum-told : tie.Need-enum-told
-enum-told c = search needs
-
-enum-told-2 : tie.Need-enum-told-2
-enum-told-2 c = search needs
-
-enum-known-checked : tie.Need-enum-known-checked
-enum-known-checked c = search needs
-
 refusal-requires : tie.Need-refusal-requires
 refusal-requires c κs = refused-small _ _ _ (c .before .before .before .check-plan .ensures) (c .before .checked .given .1)
 
@@ -32,10 +20,10 @@ pub melyonva-check-spec : {M : Type 1} → statement M
 melyonva-check-spec =
     tie.close
     (tie.spec
-    check-plan-requires
-    enum-told
-    enum-told-2
-    enum-known-checked
+    (λ c κs. search needs)
+    (λ c. search needs)
+    (λ c. search needs)
+    (λ c. search needs)
     refusal-requires
     returns
     returns-2

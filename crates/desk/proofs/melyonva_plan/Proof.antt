@@ -4,17 +4,8 @@ use borrow.Author.Needs.{needs}
 use Rattle.desk.proofs.melyonva_plan.Statement.{statement}
 use Rattle.desk.proofs.melyonva_plan.Tie as tie
 
-plan-book-requires : tie.Need-plan-book-requires
-plan-book-requires c κs = search needs
-
-enum-known-answer : tie.Need-enum-known-answer
-enum-known-answer c = search needs
-
 refusal-requires : tie.Need-refusal-requires
 refusal-requires c κs = refusal-fits (c .before .before .before .before .before .before .before .before .before .args .entries .now) (c .before .before .before .before .before .before .before .before .before .args .prices .now) (c .before .before .before .before .before .plan-book .ensures) (c .before .answer .given .1)
-
-enum-known-answer-2 : tie.Need-enum-known-answer-2
-enum-known-answer-2 c = search needs
 
 write-entries-requires : tie.Need-write-entries-requires
 write-entries-requires c κs = entries-fit (c .before .before .before .before .before .before .before .before .before .before .before .args .entries .now) (c .before .before .before .before .before .before .before .before .before .before .before .args .prices .now) (c .before .before .before .before .before .before .before .plan-book .ensures) (c .before .before .before .answer2 .given .1)
@@ -25,12 +16,6 @@ write-prices-requires c κs = prices-fit (c .before .before .before .before .bef
 plan-requires : tie.Need-plan-requires
 plan-requires c κs = numbers-fit (c .before .before .before .before .before .before .before .before .before .before .before .before .before .before .before .before .before .before .before .before .before .args .entries .now) (c .before .before .before .before .before .before .before .before .before .before .before .before .before .before .before .before .before .before .before .before .before .args .prices .now) (c .before .before .before .before .before .before .before .before .before .before .before .before .before .before .before .before .before .plan-book .ensures) (c .before .before .before .before .before .before .before .before .before .before .before .before .before .answer2 .given .1)
 
-same-length : tie.Need-same-length
-same-length c = search needs
-
-same-length-2 : tie.Need-same-length-2
-same-length-2 c = search needs
-
 returns : tie.Need-returns
 returns c = handed-line (c .before .before .before .before .before .before .before .before .before .before .before .before .before .before .before .before .before .before .before .before .before .before .args .entries .now) (c .before .before .before .before .before .before .before .before .before .before .before .before .before .before .before .before .before .before .before .before .before .before .args .prices .now) (c .before .before .before .before .before .before .before .before .before .before .before .before .before .before .before .before .before .before .plan-book .ensures) (c .before .before .before .before .before .before .before .before .before .before .before .before .before .before .answer2 .given .1) (c .plan3 .ensures) (c .before .before .before .before .before .before .before .before .before .before .write-entries .ensures) (c .before .before .before .before .before .before .if1 .taken) (c .before .before .before .write-prices .ensures)
 
@@ -40,9 +25,6 @@ plan-requires-2 c κs = numbers-fit (c .before .before .before .before .before .
 returns-2 : tie.Need-returns-2
 returns-2 c = handed-refusal (c .before .before .before .before .before .before .before .before .before .before .args .entries .now) (c .before .before .before .before .before .before .before .before .before .before .args .prices .now) (c .before .before .before .before .before .before .plan-book .ensures) (c .before .before .answer .given .1) (c .refusal .ensures)
 
-same-length-3 : tie.Need-same-length-3
-same-length-3 c = search needs
-
 returns-3 : tie.Need-returns-3
 returns-3 c = handed-ring (c .before .before .before .before .before .before .before .before .before .before .before .before .before .before .before .before .before .args .entries .now) (c .before .before .before .before .before .before .before .before .before .before .before .before .before .before .before .before .before .args .prices .now) (c .before .before .before .before .before .before .before .before .before .before .before .before .before .plan-book .ensures) (c .before .before .before .before .before .before .before .before .before .answer2 .given .1) (c .plan4 .ensures) (c .before .before .before .before .before .write-entries .ensures) (c .before .if1 .left)
 
@@ -50,17 +32,17 @@ pub melyonva-plan-spec : {M : Type 1} → statement M
 melyonva-plan-spec =
     tie.close
     (tie.spec
-    plan-book-requires
-    enum-known-answer
+    (λ c κs. search needs)
+    (λ c. search needs)
     refusal-requires
-    enum-known-answer-2
+    (λ c. search needs)
     write-entries-requires
     write-prices-requires
     plan-requires
-    same-length
-    same-length-2
+    (λ c. search needs)
+    (λ c. search needs)
     returns
     plan-requires-2
     returns-2
-    same-length-3
+    (λ c. search needs)
     returns-3)

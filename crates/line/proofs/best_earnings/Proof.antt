@@ -8,9 +8,6 @@ use Rattle.line.specs.Placing.{placed-low}
 use Rattle.line.proofs.best_earnings.Statement.{statement}
 use Rattle.line.proofs.best_earnings.Tie as tie
 
-sub-spans : tie.Need-sub-spans
-sub-spans c = search needs
-
 solve-requires : tie.Need-solve-requires
 solve-requires c κs = can-solve (c .before .before .before .before .before .before .pre .0)
 
@@ -32,4 +29,4 @@ returns c =
     (λ w. c .earned .ensures ∙ sum-best w (s .solve .ensures), placed-low (λ j. omega arith) (c .before .before .price .ensures))
 
 pub best-earnings-spec : {M : Type 1} → statement M
-best-earnings-spec = tie.close (tie.spec sub-spans solve-requires price-requires earned-requires returns)
+best-earnings-spec = tie.close (tie.spec (λ c. search needs) solve-requires price-requires earned-requires returns)

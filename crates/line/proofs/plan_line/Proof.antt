@@ -27,17 +27,11 @@ entered m = m .before .before
 abbrev mapped : tie.After-price → tie.After-places
 mapped p = p .before .before .before .before
 
-sub-cells : tie.Need-sub-cells
-sub-cells c = search needs
-
 solve-requires : tie.Need-solve-requires
 solve-requires c κs = can-solve (c .before .before .before .before .before .before .pre)
 
 hand-out-requires : tie.Need-hand-out-requires
 hand-out-requires c κs = let s = c .before .before .before .before in can-hand-out (start s .pre) (s .solve .ensures)
-
-enum-known-given : tie.Need-enum-known-given
-enum-known-given c = search needs
 
 -- none is left without a channel, so this way is not taken
 returns : tie.Need-returns
@@ -47,9 +41,6 @@ returns c =
     let none : h .result ≡ NoneLeft (c .before .given .given .0 .0) = c .before .given .given .1 in
     let z : _≡_ {A = ℕ} 0 1 = cc in
     λ w. absurd (omega arith)
-
-enum-told : tie.Need-enum-told
-enum-told c = search needs
 
 enter-requires : tie.Need-enter-requires
 enter-requires c κs =
@@ -94,12 +85,12 @@ pub plan-line-spec : {M : Type 1} → statement M
 plan-line-spec =
     tie.close
     (tie.spec
-    sub-cells
+    (λ c. search needs)
     solve-requires
     hand-out-requires
-    enum-known-given
+    (λ c. search needs)
     returns
-    enum-told
+    (λ c. search needs)
     enter-requires
     places-requires
     array-borrow-prefix-prices

@@ -16,18 +16,6 @@ abbrev μ-loop : tie.MeasureT-loop
 loop-holds : tie.Need-loop-holds Inv-loop μ-loop
 loop-holds c = (omega arith, omega arith, filled-none _ _)
 
-mul-order : tie.Need-mul-order Inv-loop μ-loop
-mul-order c = omega arith
-
-element-write-order : tie.Need-element-write-order Inv-loop μ-loop
-element-write-order c = omega arith
-
-add-i : tie.Need-add-i Inv-loop μ-loop
-add-i c = omega arith
-
-loop-less : tie.Need-loop-less Inv-loop μ-loop
-loop-less c = omega arith
-
 loop-again : tie.Need-loop-again Inv-loop μ-loop
 loop-again c = (omega arith, simp length-set (omega arith), filled-more _ (c .before .loop .inv .2) (omega arith) refl)
 
@@ -44,9 +32,9 @@ by-number-spec =
     Inv-loop
     μ-loop
     loop-holds
-    mul-order
-    element-write-order
-    add-i
-    loop-less
+    (λ c. omega arith)
+    (λ c. omega arith)
+    (λ c. omega arith)
+    (λ c. omega arith)
     loop-again
     returns)

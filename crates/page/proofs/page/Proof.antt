@@ -4,18 +4,6 @@ use Rattle.page.specs.Page.{page-refused, page-printable, page-planned}
 use Rattle.page.proofs.page.Statement.{statement}
 use Rattle.page.proofs.page.Tie as tie
 
-plan-book-requires : tie.Need-plan-book-requires
-plan-book-requires c κs = search needs
-
-enum-known-answer : tie.Need-enum-known-answer
-enum-known-answer c = search needs
-
-print-refusal-requires : tie.Need-print-refusal-requires
-print-refusal-requires c κs = search needs
-
-enum-known-answer-2 : tie.Need-enum-known-answer-2
-enum-known-answer-2 c = search needs
-
 print-plan-requires : tie.Need-print-plan-requires
 print-plan-requires c κs = page-printable (c .before .before .before .before .before .before .before .before .before .before .plan-book .ensures) (c .before .before .before .before .before .answer2 .given .1)
 
@@ -29,10 +17,10 @@ pub page-spec : {M : Type 1} → statement M
 page-spec =
     tie.close
     (tie.spec
-    plan-book-requires
-    enum-known-answer
-    print-refusal-requires
-    enum-known-answer-2
+    (λ c κs. search needs)
+    (λ c. search needs)
+    (λ c κs. search needs)
+    (λ c. search needs)
     print-plan-requires
     returns
     returns-2)

@@ -4,12 +4,6 @@ use borrow.Author.Needs.{needs}
 use Rattle.planner.proofs.answer_of.Statement.{statement}
 use Rattle.planner.proofs.answer_of.Tie as tie
 
-enum-known-solved : tie.Need-enum-known-solved
-enum-known-solved c = search needs
-
-enum-known-solved-2 : tie.Need-enum-known-solved-2
-enum-known-solved-2 c = search needs
-
 returns : tie.Need-returns
 unfolding answered
 returns c = rw (c .before .solved .given .1)
@@ -19,4 +13,4 @@ unfolding answered
 returns-2 c = rw (c .before .solved2 .given .1)
 
 pub answer-of-spec : {M : Type 1} → statement M
-answer-of-spec = tie.close (tie.spec enum-known-solved enum-known-solved-2 returns returns-2)
+answer-of-spec = tie.close (tie.spec (λ c. search needs) (λ c. search needs) returns returns-2)

@@ -5,18 +5,6 @@ use borrow.Author.Needs.{needs}
 use Rattle.planner.proofs.plan_book.Statement.{statement}
 use Rattle.planner.proofs.plan_book.Tie as tie
 
-read-book-requires : tie.Need-read-book-requires
-read-book-requires c κs = search needs
-
-enum-known-answer : tie.Need-enum-known-answer
-enum-known-answer c = search needs
-
-refuse-requires : tie.Need-refuse-requires
-refuse-requires c κs = search needs
-
-enum-known-answer-2 : tie.Need-enum-known-answer-2
-enum-known-answer-2 c = search needs
-
 plan-accepted-requires : tie.Need-plan-accepted-requires
 plan-accepted-requires c κs = accepted (c .before .before .before .before .before .read-book .ensures) (c .before .answer2 .given .1) .0
 
@@ -30,10 +18,10 @@ pub plan-book-spec : {M : Type 1} → statement M
 plan-book-spec =
     tie.close
     (tie.spec
-    read-book-requires
-    enum-known-answer
-    refuse-requires
-    enum-known-answer-2
+    (λ c κs. search needs)
+    (λ c. search needs)
+    (λ c κs. search needs)
+    (λ c. search needs)
     plan-accepted-requires
     returns
     returns-2)

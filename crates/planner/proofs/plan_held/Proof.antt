@@ -5,15 +5,6 @@ use borrow.Author.Needs.{needs}
 use Rattle.planner.proofs.plan_held.Statement.{statement}
 use Rattle.planner.proofs.plan_held.Tie as tie
 
-spans-of-requires : tie.Need-spans-of-requires
-spans-of-requires c κs = search needs
-
-short-requires : tie.Need-short-requires
-short-requires c κs = search needs
-
-refuse-requires : tie.Need-refuse-requires
-refuse-requires c κs = search needs
-
 returns : tie.Need-returns
 returns c held = held-short (short-is _ _ held (c .before .before .before .spans-of .ensures) (c .before .before .short .ensures) ∙ c .before .if1 .taken) (c .refuse .ensures)
 
@@ -33,9 +24,9 @@ pub plan-held-spec : {M : Type 1} → statement M
 plan-held-spec =
     tie.close
     (tie.spec
-    spans-of-requires
-    short-requires
-    refuse-requires
+    (λ c κs. search needs)
+    (λ c κs. search needs)
+    (λ c κs. search needs)
     returns
     plan-on-line-requires
     returns-2

@@ -4,14 +4,8 @@ use borrow.Author.Needs.{needs}
 use Rattle.planner.proofs.plan_on_ring.Statement.{statement}
 use Rattle.planner.proofs.plan_on_ring.Tie as tie
 
-plan-ring-requires : tie.Need-plan-ring-requires
-plan-ring-requires c κs = search needs
-
-answer-of-requires : tie.Need-answer-of-requires
-answer-of-requires c κs = search needs
-
 returns : tie.Need-returns
 returns c w = on-ring w (c .before .before .plan-ring .ensures w) (c .answer-of .ensures)
 
 pub plan-on-ring-spec : {M : Type 1} → statement M
-plan-on-ring-spec = tie.close (tie.spec plan-ring-requires answer-of-requires returns)
+plan-on-ring-spec = tie.close (tie.spec (λ c κs. search needs) (λ c κs. search needs) returns)

@@ -7,17 +7,8 @@ use Rattle.print.specs.Parts.{refusal-put}
 use Rattle.print.proofs.print_refusal.Statement.{statement}
 use Rattle.print.proofs.print_refusal.Tie as tie
 
-slice-aggregate-put-word : tie.Need-slice-aggregate-put-word
-slice-aggregate-put-word c = omega arith
-
-put-word-requires : tie.Need-put-word-requires
-put-word-requires c κs = omega arith
-
 put-decimal-requires : tie.Need-put-decimal-requires
 put-decimal-requires c κs = omega (arith, short-64)
-
-slice-aggregate-put-word-2 : tie.Need-slice-aggregate-put-word-2
-slice-aggregate-put-word-2 c = omega arith
 
 put-word-requires-2 : tie.Need-put-word-requires-2
 put-word-requires-2 c κs = omega (arith, short-64)
@@ -36,10 +27,10 @@ pub print-refusal-spec : {M : Type 1} → statement M
 print-refusal-spec =
     tie.close
     (tie.spec
-    slice-aggregate-put-word
-    put-word-requires
+    (λ c. omega arith)
+    (λ c κs. omega arith)
     put-decimal-requires
-    slice-aggregate-put-word-2
+    (λ c. omega arith)
     put-word-requires-2
     put-number-requires
     returns)

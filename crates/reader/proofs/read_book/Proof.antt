@@ -12,32 +12,11 @@ use borrow.Author.Needs.{needs}
 use Rattle.reader.proofs.read_book.Statement.{statement}
 use Rattle.reader.proofs.read_book.Tie as tie
 
-through-view-requires : tie.Need-through-view-requires
-through-view-requires c κs = search needs
-
-enum-known-reading : tie.Need-enum-known-reading
-enum-known-reading c = search needs
-
-enum-told : tie.Need-enum-told
-enum-told c = search needs
-
-refusal-of-requires : tie.Need-refusal-of-requires
-refusal-of-requires c κs = search needs
-
-nothing-requires : tie.Need-nothing-requires
-nothing-requires c κs = search needs
-
 returns : tie.Need-returns
 returns c =
     let told = c .before .before in
     not-read _ _ _ _ (c .nothing .ensures) refl
     (network-refused _ _ (the-refusal _ _ _ _ (told .before .before .through-view .ensures) (told .enum-told .given .1) (c .before .refusal-of .ensures)))
-
-enum-known-got : tie.Need-enum-known-got
-enum-known-got c = search needs
-
-nothing-requires-2 : tie.Need-nothing-requires-2
-nothing-requires-2 c κs = search needs
 
 returns-2 : tie.Need-returns-2
 returns-2 c =
@@ -64,20 +43,8 @@ starts c =
     let call = c .before .before .before in
     part-starts _ _ _ (counted (call .before)) _ (call .read-spans .ensures) _ (c .before .enum-told2 .given .1)
 
-spans-of-requires : tie.Need-spans-of-requires
-spans-of-requires c κs = search needs
-
 read-spans-requires : tie.Need-read-spans-requires
 read-spans-requires c κs = at-most c
-
-enum-told-2 : tie.Need-enum-told-2
-enum-told-2 c = search needs
-
-enum-told-3 : tie.Need-enum-told-3
-enum-told-3 c = search needs
-
-nothing-requires-3 : tie.Need-nothing-requires-3
-nothing-requires-3 c κs = search needs
 
 returns-3 : tie.Need-returns-3
 returns-3 c =
@@ -98,9 +65,6 @@ sub-read-requests c = starts c
 part-read-requests-start : tie.Need-part-read-requests-start
 part-read-requests-start c = starts c
 
-part-read-requests-end : tie.Need-part-read-requests-end
-part-read-requests-end c = search needs
-
 read-requests-requires : tie.Need-read-requests-requires
 read-requests-requires c κs = omega (arith, at-most (c .before .before .before .before .before))
 
@@ -114,25 +78,25 @@ pub read-book-spec : {M : Type 1} → statement M
 read-book-spec =
     tie.close
     (tie.spec
-    through-view-requires
-    enum-known-reading
-    enum-told
-    refusal-of-requires
-    nothing-requires
+    (λ c κs. search needs)
+    (λ c. search needs)
+    (λ c. search needs)
+    (λ c κs. search needs)
+    (λ c κs. search needs)
     returns
-    enum-known-got
-    nothing-requires-2
+    (λ c. search needs)
+    (λ c κs. search needs)
     returns-2
-    spans-of-requires
+    (λ c κs. search needs)
     read-spans-requires
-    enum-told-2
-    enum-told-3
-    nothing-requires-3
+    (λ c. search needs)
+    (λ c. search needs)
+    (λ c κs. search needs)
     returns-3
     add-before
     mul-at
     sub-read-requests
     part-read-requests-start
-    part-read-requests-end
+    (λ c. search needs)
     read-requests-requires
     returns-4)

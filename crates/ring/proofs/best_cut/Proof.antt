@@ -1,8 +1,7 @@
 -- `ring::best_cut` meets its contract: the best so far is the lowest of the greatest among the cuts tried; a cut that earns more takes its place, and
 -- one that is passed over does not earn more. Each turn leaves one cut fewer. Assumes nothing.
 use mathlib.Core.Logic.{⊎-elim}
-use mathlib.Core.Path.{_≡_}
-use Prim.Native.Nat.{ℕ, _+_, _-_, _≤_, _<_}
+use Prim.Native.Nat.{_-_, _≤_}
 use native.Mathlib.Omega.{arith}
 use Rattle.line.specs.Placing.{LowPrices}
 use Rattle.ring.specs.Promise.{CanPlanRing}
@@ -35,9 +34,6 @@ raised-requires c κs =
 add-j : tie.Need-add-j Inv-loop μ-loop
 add-j c = omega (arith, few-nodes (c .before .before .before .before .before .before .before .pre))
 
-loop-less : tie.Need-loop-less Inv-loop μ-loop
-loop-less c = omega arith
-
 loop-again : tie.Need-loop-again Inv-loop μ-loop
 loop-again c =
     let l = c .before .before .before .before .loop in
@@ -63,6 +59,6 @@ best-cut-spec =
     loop-holds
     raised-requires
     add-j
-    loop-less
+    (λ c. omega arith)
     loop-again
     returns)

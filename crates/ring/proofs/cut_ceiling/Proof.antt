@@ -1,7 +1,7 @@
 -- `ring::cut_ceiling` meets its contract: the turned columns and prices are those of the line which the cut leaves, and no line earns more than a ceiling.
 -- Assumes nothing.
 use borrow.Author.Needs.{needs}
-use Rattle.ring.specs.Turned.{few-nodes, a-nodes, b-nodes}
+use Rattle.ring.specs.Turned.{a-nodes, b-nodes}
 use Rattle.ring.specs.Known.{cut-priced, cut-bounded}
 use Rattle.ring.proofs.cut_ceiling.Statement.{statement}
 use Rattle.ring.proofs.cut_ceiling.Tie as tie
@@ -16,20 +16,11 @@ second t = t .before .before
 abbrev third : tie.After-turn-limits2 → tie.After-turn-ends2
 third t = t .before .before
 
-turn-limits-requires : tie.Need-turn-limits-requires
-turn-limits-requires c κs = search needs
-
 turn-ends-requires : tie.Need-turn-ends-requires
 turn-ends-requires c κs = let p = c .before .before .before in a-nodes (p .pre .0) _ (p .pre .1 .0)
 
 turn-ends-requires-2 : tie.Need-turn-ends-requires-2
 turn-ends-requires-2 c κs = let p = c .before .before .before .before .before in b-nodes (p .pre .0) _ (p .pre .1 .0)
-
-turn-limits-requires-2 : tie.Need-turn-limits-requires-2
-turn-limits-requires-2 c κs = search needs
-
-sub-ceiling-of : tie.Need-sub-ceiling-of
-sub-ceiling-of c = search needs
 
 ceiling-of-requires : tie.Need-ceiling-of-requires
 ceiling-of-requires c κs =
@@ -53,10 +44,10 @@ pub cut-ceiling-spec : {M : Type 1} → statement M
 cut-ceiling-spec =
     tie.close
     (tie.spec
-    turn-limits-requires
+    (λ c κs. search needs)
     turn-ends-requires
     turn-ends-requires-2
-    turn-limits-requires-2
-    sub-ceiling-of
+    (λ c κs. search needs)
+    (λ c. search needs)
     ceiling-of-requires
     returns)

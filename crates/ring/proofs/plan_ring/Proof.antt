@@ -4,9 +4,6 @@ use Rattle.ring.specs.Turned.{few-nodes, chosen-in, a-nodes, b-nodes, cu
 use Rattle.ring.proofs.plan_ring.Statement.{statement}
 use Rattle.ring.proofs.plan_ring.Tie as tie
 
-best-cut-requires : tie.Need-best-cut-requires
-best-cut-requires c κs = search needs
-
 turn-limits-requires : tie.Need-turn-limits-requires
 turn-limits-requires c κs =
     let p = c .before .before in
@@ -40,7 +37,7 @@ pub plan-ring-spec : {M : Type 1} → statement M
 plan-ring-spec =
     tie.close
     (tie.spec
-    best-cut-requires
+    (λ c κs. search needs)
     turn-limits-requires
     turn-ends-requires
     turn-ends-requires-2

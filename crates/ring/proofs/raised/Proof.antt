@@ -13,11 +13,8 @@ returns c = (λ w. omega (arith, c .before .cut-ceiling .ensures w, c .if1 .take
 cut-earnings-requires : tie.Need-cut-earnings-requires
 cut-earnings-requires c κs = c .before .before .before .before .pre
 
-higher-requires : tie.Need-higher-requires
-higher-requires c κs = search needs
-
 returns-2 : tie.Need-returns-2
 returns-2 c = (λ w. omega (arith, c .higher .ensures, c .before .cut-earnings .ensures .0 w), c .before .cut-earnings .ensures .1)
 
 pub raised-spec : {M : Type 1} → statement M
-raised-spec = tie.close (tie.spec cut-ceiling-requires returns cut-earnings-requires higher-requires returns-2)
+raised-spec = tie.close (tie.spec cut-ceiling-requires returns cut-earnings-requires (λ c κs. search needs) returns-2)

@@ -5,12 +5,6 @@ use Rattle.turn.specs.Nodes.{span-round, span-ahead}
 use Rattle.turn.proofs.span_at.Statement.{statement}
 use Rattle.turn.proofs.span_at.Tie as tie
 
-add-s : tie.Need-add-s
-add-s c = search needs
-
-add-s-2 : tie.Need-add-s-2
-add-s-2 c = search needs
-
 returns : tie.Need-returns
 returns c = span-round _ _ _ (omega arith)
 
@@ -18,4 +12,4 @@ returns-2 : tie.Need-returns-2
 returns-2 c = span-ahead _ _ _ (omega arith)
 
 pub span-at-spec : {M : Type 1} → statement M
-span-at-spec = tie.close (tie.spec add-s add-s-2 returns returns-2)
+span-at-spec = tie.close (tie.spec (λ c. search needs) (λ c. search needs) returns returns-2)

@@ -8,14 +8,8 @@ use Rattle.turn.proofs.steps.Tie as tie
 returns : tie.Need-returns
 returns c = steps-ahead _ _ _ (omega arith)
 
-add-result : tie.Need-add-result
-add-result c = search needs
-
-sub-result : tie.Need-sub-result
-sub-result c = search needs
-
 returns-2 : tie.Need-returns-2
 returns-2 c = steps-round _ _ _ (omega arith)
 
 pub steps-spec : {M : Type 1} → statement M
-steps-spec = tie.close (tie.spec returns add-result sub-result returns-2)
+steps-spec = tie.close (tie.spec returns (λ c. search needs) (λ c. search needs) returns-2)

@@ -24,32 +24,14 @@ inside c =
     let l = c .before .before .loop in
     omega (arith, c .span-at .ensures, span-below (p .args .n) (p .args .j) (p .pre .0) (l .t) (omega arith))
 
-sub-last : tie.Need-sub-last Inv-loop μ-loop
-sub-last c = omega arith
-
 loop-holds : tie.Need-loop-holds Inv-loop μ-loop
 loop-holds c = (omega arith, omega arith, refl, filled-none _ _)
-
-span-at-requires : tie.Need-span-at-requires Inv-loop μ-loop
-span-at-requires c κs = omega arith
 
 mul-turned : tie.Need-mul-turned Inv-loop μ-loop
 mul-turned c = omega (arith, inside c)
 
 element-copy-out-turned : tie.Need-element-copy-out-turned Inv-loop μ-loop
 element-copy-out-turned c = omega (arith, inside c)
-
-mul-turned-2 : tie.Need-mul-turned-2 Inv-loop μ-loop
-mul-turned-2 c = omega arith
-
-element-write-turned : tie.Need-element-write-turned Inv-loop μ-loop
-element-write-turned c = omega arith
-
-add-t : tie.Need-add-t Inv-loop μ-loop
-add-t c = omega arith
-
-loop-less : tie.Need-loop-less Inv-loop μ-loop
-loop-less c = omega arith
 
 loop-again : tie.Need-loop-again Inv-loop μ-loop
 loop-again c =
@@ -66,14 +48,14 @@ turn-limits-spec =
     (tie.spec
     Inv-loop
     μ-loop
-    sub-last
+    (λ c. omega arith)
     loop-holds
-    span-at-requires
+    (λ c κs. omega arith)
     mul-turned
     element-copy-out-turned
-    mul-turned-2
-    element-write-turned
-    add-t
-    loop-less
+    (λ c. omega arith)
+    (λ c. omega arith)
+    (λ c. omega arith)
+    (λ c. omega arith)
     loop-again
     returns)

@@ -12,12 +12,6 @@ returns : tie.Need-returns
 unfolding checkedOf
 returns c h = ring-refused h _ _ (c .if1 .taken)
 
-sub-spans : tie.Need-sub-spans
-sub-spans c = search needs
-
-too-short-requires : tie.Need-too-short-requires
-too-short-requires c κs = search needs
-
 returns-2 : tie.Need-returns-2
 unfolding checkedOf
 returns-2 c h = short-refused h _ _ (c .before .before .before .if1 .left) _ (c .before .too-short .ensures) (c .if2 .taken)
@@ -58,4 +52,4 @@ returns-5 c h =
 
 pub check-book-spec : {M : Type 1} → statement M
 check-book-spec =
-    tie.close (tie.spec returns sub-spans too-short-requires returns-2 dear-requires returns-3 weigh-requires returns-4 returns-5)
+    tie.close (tie.spec returns (λ c. search needs) (λ c κs. search needs) returns-2 dear-requires returns-3 weigh-requires returns-4 returns-5)

@@ -7,15 +7,6 @@ use Rattle.verdict.specs.WaysOut.{book-refused, book-accepted}
 use Rattle.verdict.proofs.check_plan.Statement.{statement}
 use Rattle.verdict.proofs.check_plan.Tie as tie
 
-read-book-requires : tie.Need-read-book-requires
-read-book-requires c κs = search needs
-
-enum-known-answer : tie.Need-enum-known-answer
-enum-known-answer c = search needs
-
-enum-known-answer-2 : tie.Need-enum-known-answer-2
-enum-known-answer-2 c = search needs
-
 returns : tie.Need-returns
 unfolding checkedOf
 returns c = book-refused _ _ _ (not-accepted (c .before .before .before .read-book .ensures) (c .before .answer2 .given .1))
@@ -34,9 +25,9 @@ pub check-plan-spec : {M : Type 1} → statement M
 check-plan-spec =
     tie.close
     (tie.spec
-    read-book-requires
-    enum-known-answer
-    enum-known-answer-2
+    (λ c κs. search needs)
+    (λ c. search needs)
+    (λ c. search needs)
     returns
     check-accepted-requires
     returns-2)

@@ -17,13 +17,10 @@ returns : tie.Need-returns
 unfolding verdict
 returns c w k = rw (← c .before .lawful .ensures (w .book) (drawn (w .held)) k, not-true (c .before .lawful .result) (c .if1 .taken))
 
-balanced-requires : tie.Need-balanced-requires
-balanced-requires c κs = search needs
-
 returns-2 : tie.Need-returns-2
 unfolding verdict
 returns-2 c w k =
     rw (← c .before .before .lawful .ensures (w .book) (drawn (w .held)) k, not-false (c .before .before .lawful .result) (c .before .if1 .left)) (c .balanced .ensures w)
 
 pub weigh-spec : {M : Type 1} → statement M
-weigh-spec = tie.close (tie.spec lawful-requires returns balanced-requires returns-2)
+weigh-spec = tie.close (tie.spec lawful-requires returns (λ c κs. search needs) returns-2)

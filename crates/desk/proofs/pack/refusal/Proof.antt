@@ -4,18 +4,9 @@ use borrow.Author.Needs.{needs}
 use Rattle.desk.proofs.pack.refusal.Statement.{statement}
 use Rattle.desk.proofs.pack.refusal.Tie as tie
 
-mul-result : tie.Need-mul-result
-mul-result c = search needs
-
-add-result : tie.Need-add-result
-add-result c = search needs
-
-add-result-2 : tie.Need-add-result-2
-add-result-2 c = search needs
-
 returns : tie.Need-returns
 unfolding packedRefusal
 returns c = search needs
 
 pub refusal-spec : {M : Type 1} → statement M
-refusal-spec = tie.close (tie.spec mul-result add-result add-result-2 returns)
+refusal-spec = tie.close (tie.spec (λ c. search needs) (λ c. search needs) (λ c. search needs) returns)

@@ -17,26 +17,11 @@ abbrev μ-loop : tie.MeasureT-loop
 loop-holds : tie.Need-loop-holds Inv-loop μ-loop
 loop-holds c = (omega arith, entries-none _ _)
 
-mul-put-two : tie.Need-mul-put-two Inv-loop μ-loop
-mul-put-two c = omega arith
-
-mul-put-two-2 : tie.Need-mul-put-two-2 Inv-loop μ-loop
-mul-put-two-2 c = omega arith
-
-element-copy-out-put-two : tie.Need-element-copy-out-put-two Inv-loop μ-loop
-element-copy-out-put-two c = omega arith
-
 put-two-requires : tie.Need-put-two-requires Inv-loop μ-loop
 put-two-requires c κs =
     let l = c .before .before .before .loop in
     let fit = c .before .before .before .before .before .pre in
     (omega (arith, fit .room, l .inv .1 .length-same), fit .small (l .i) (omega arith))
-
-add-i : tie.Need-add-i Inv-loop μ-loop
-add-i c = omega arith
-
-loop-less : tie.Need-loop-less Inv-loop μ-loop
-loop-less c = omega arith
 
 loop-again : tie.Need-loop-again Inv-loop μ-loop
 loop-again c = (omega arith, entries-more (c .before .before .before .before .before .before .loop .inv .1) (c .before .before .put-two .ensures))
@@ -57,12 +42,12 @@ write-entries-spec =
     Inv-loop
     μ-loop
     loop-holds
-    mul-put-two
-    mul-put-two-2
-    element-copy-out-put-two
+    (λ c. omega arith)
+    (λ c. omega arith)
+    (λ c. omega arith)
     put-two-requires
-    add-i
-    loop-less
+    (λ c. omega arith)
+    (λ c. omega arith)
     loop-again
     same-length
     returns)

@@ -17,38 +17,17 @@ abbrev μ-loop : tie.MeasureT-loop
 loop-holds : tie.Need-loop-holds Inv-loop μ-loop
 loop-holds c = (omega arith, prices-none _ _)
 
-mul-price : tie.Need-mul-price Inv-loop μ-loop
-mul-price c = omega arith
-
-element-copy-out-price : tie.Need-element-copy-out-price Inv-loop μ-loop
-element-copy-out-price c = omega arith
-
-mul-put-two : tie.Need-mul-put-two Inv-loop μ-loop
-mul-put-two c = omega arith
-
 put-two-requires : tie.Need-put-two-requires Inv-loop μ-loop
 put-two-requires c κs =
     let l = c .before .before .before .loop in
     let fit = c .before .before .before .before .before .pre in
     (omega (arith, fit .room, l .inv .1 .length-same), omega (arith, fit .small (l .j) (omega arith)))
 
-mul-put-two-2 : tie.Need-mul-put-two-2 Inv-loop μ-loop
-mul-put-two-2 c = omega arith
-
-add-put-two : tie.Need-add-put-two Inv-loop μ-loop
-add-put-two c = omega arith
-
 put-two-requires-2 : tie.Need-put-two-requires-2 Inv-loop μ-loop
 put-two-requires-2 c κs =
     let l = c .before .before .before .before .before .before .before .loop in
     let fit = c .before .before .before .before .before .before .before .before .before .pre in
     (omega (arith, fit .room, l .inv .1 .length-same, c .before .before .before .put-two .ensures .length-same), omega arith)
-
-add-j : tie.Need-add-j Inv-loop μ-loop
-add-j c = omega arith
-
-loop-less : tie.Need-loop-less Inv-loop μ-loop
-loop-less c = omega arith
 
 loop-again : tie.Need-loop-again Inv-loop μ-loop
 loop-again c = (omega arith, prices-more (c .before .before .before .before .before .before .before .before .before .before .loop .inv .1) (c .before .before .before .before .before .before .put-two .ensures) (c .before .before .put-two2 .ensures))
@@ -69,15 +48,15 @@ write-prices-spec =
     Inv-loop
     μ-loop
     loop-holds
-    mul-price
-    element-copy-out-price
-    mul-put-two
+    (λ c. omega arith)
+    (λ c. omega arith)
+    (λ c. omega arith)
     put-two-requires
-    mul-put-two-2
-    add-put-two
+    (λ c. omega arith)
+    (λ c. omega arith)
     put-two-requires-2
-    add-j
-    loop-less
+    (λ c. omega arith)
+    (λ c. omega arith)
     loop-again
     same-length
     returns)

@@ -23,72 +23,6 @@ abbrev μ-loop : tie.MeasureT-loop
 loop-holds : tie.Need-loop-holds Inv-loop μ-loop
 loop-holds c = (omega arith, laying-none _ _ _ _ _ _ (omega arith) (omega arith) (omega arith))
 
-mul-if1 : tie.Need-mul-if1 Inv-loop μ-loop
-mul-if1 c = omega arith
-
-element-copy-out-if1 : tie.Need-element-copy-out-if1 Inv-loop μ-loop
-element-copy-out-if1 c = omega arith
-
-mul-if1-2 : tie.Need-mul-if1-2 Inv-loop μ-loop
-mul-if1-2 c = omega arith
-
-element-copy-out-if1-2 : tie.Need-element-copy-out-if1-2 Inv-loop μ-loop
-element-copy-out-if1-2 c = omega arith
-
-mul-lo : tie.Need-mul-lo Inv-loop μ-loop
-mul-lo c = omega arith
-
-element-copy-out-lo : tie.Need-element-copy-out-lo Inv-loop μ-loop
-element-copy-out-lo c = omega arith
-
-mul-lo-2 : tie.Need-mul-lo-2 Inv-loop μ-loop
-mul-lo-2 c = omega arith
-
-element-write-lo : tie.Need-element-write-lo Inv-loop μ-loop
-element-write-lo c = omega arith
-
-mul-hi : tie.Need-mul-hi Inv-loop μ-loop
-mul-hi c = omega arith
-
-element-copy-out-hi : tie.Need-element-copy-out-hi Inv-loop μ-loop
-element-copy-out-hi c = omega arith
-
-mul-hi-2 : tie.Need-mul-hi-2 Inv-loop μ-loop
-mul-hi-2 c = omega arith
-
-element-write-hi : tie.Need-element-write-hi Inv-loop μ-loop
-element-write-hi c = omega arith
-
-mul-lo-3 : tie.Need-mul-lo-3 Inv-loop μ-loop
-mul-lo-3 c = omega arith
-
-element-copy-out-lo-2 : tie.Need-element-copy-out-lo-2 Inv-loop μ-loop
-element-copy-out-lo-2 c = omega arith
-
-mul-lo-4 : tie.Need-mul-lo-4 Inv-loop μ-loop
-mul-lo-4 c = omega arith
-
-element-write-lo-2 : tie.Need-element-write-lo-2 Inv-loop μ-loop
-element-write-lo-2 c = omega arith
-
-mul-hi-3 : tie.Need-mul-hi-3 Inv-loop μ-loop
-mul-hi-3 c = omega arith
-
-element-copy-out-hi-2 : tie.Need-element-copy-out-hi-2 Inv-loop μ-loop
-element-copy-out-hi-2 c = omega arith
-
-mul-hi-4 : tie.Need-mul-hi-4 Inv-loop μ-loop
-mul-hi-4 c = omega arith
-
-element-write-hi-2 : tie.Need-element-write-hi-2 Inv-loop μ-loop
-element-write-hi-2 c = omega arith
-
-mul-cost : tie.Need-mul-cost Inv-loop μ-loop
-mul-cost c = omega arith
-
-element-copy-out-cost : tie.Need-element-copy-out-cost Inv-loop μ-loop
-element-copy-out-cost c = omega arith
-
 -- the profit of the request that is laid, and its cost
 abbrev gain : tie.After-cost Inv-loop μ-loop → ℕ
 gain c = let l = c .before .before .before .before .before in at (l .before .before .before .before .before .before .before .args .profit .now) (l .loop .i)
@@ -106,18 +40,6 @@ cast-cost c = within (pos (gain c)) 1000000 (omega arith) (omega (arith, gain-up
 
 sub-cost : tie.Need-sub-cost Inv-loop μ-loop
 sub-cost c = paid c .fits
-
-mul-t20 : tie.Need-mul-t20 Inv-loop μ-loop
-mul-t20 c = omega arith
-
-element-set-from-cost : tie.Need-element-set-from-cost Inv-loop μ-loop
-element-set-from-cost c = omega arith
-
-add-i : tie.Need-add-i Inv-loop μ-loop
-add-i c = omega arith
-
-loop-less : tie.Need-loop-less Inv-loop μ-loop
-loop-less c = omega arith
 
 loop-again : tie.Need-loop-again Inv-loop μ-loop
 loop-again c =
@@ -141,33 +63,33 @@ lay-spec =
     Inv-loop
     μ-loop
     loop-holds
-    mul-if1
-    element-copy-out-if1
-    mul-if1-2
-    element-copy-out-if1-2
-    mul-lo
-    element-copy-out-lo
-    mul-lo-2
-    element-write-lo
-    mul-hi
-    element-copy-out-hi
-    mul-hi-2
-    element-write-hi
-    mul-lo-3
-    element-copy-out-lo-2
-    mul-lo-4
-    element-write-lo-2
-    mul-hi-3
-    element-copy-out-hi-2
-    mul-hi-4
-    element-write-hi-2
-    mul-cost
-    element-copy-out-cost
+    (λ c. omega arith)
+    (λ c. omega arith)
+    (λ c. omega arith)
+    (λ c. omega arith)
+    (λ c. omega arith)
+    (λ c. omega arith)
+    (λ c. omega arith)
+    (λ c. omega arith)
+    (λ c. omega arith)
+    (λ c. omega arith)
+    (λ c. omega arith)
+    (λ c. omega arith)
+    (λ c. omega arith)
+    (λ c. omega arith)
+    (λ c. omega arith)
+    (λ c. omega arith)
+    (λ c. omega arith)
+    (λ c. omega arith)
+    (λ c. omega arith)
+    (λ c. omega arith)
+    (λ c. omega arith)
+    (λ c. omega arith)
     cast-cost
     sub-cost
-    mul-t20
-    element-set-from-cost
-    add-i
-    loop-less
+    (λ c. omega arith)
+    (λ c. omega arith)
+    (λ c. omega arith)
+    (λ c. omega arith)
     loop-again
     returns)

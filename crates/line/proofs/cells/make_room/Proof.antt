@@ -17,24 +17,6 @@ abbrev μ-loop : tie.MeasureT-loop
 loop-holds : tie.Need-loop-holds Inv-loop μ-loop
 loop-holds c = (omega arith, omega arith, filled-none _ _)
 
-mul-room : tie.Need-mul-room Inv-loop μ-loop
-mul-room c = omega arith
-
-element-copy-out-room : tie.Need-element-copy-out-room Inv-loop μ-loop
-element-copy-out-room c = omega arith
-
-mul-room-2 : tie.Need-mul-room-2 Inv-loop μ-loop
-mul-room-2 c = omega arith
-
-element-write-room : tie.Need-element-write-room Inv-loop μ-loop
-element-write-room c = omega arith
-
-add-j : tie.Need-add-j Inv-loop μ-loop
-add-j c = omega arith
-
-loop-less : tie.Need-loop-less Inv-loop μ-loop
-loop-less c = omega arith
-
 loop-again : tie.Need-loop-again Inv-loop μ-loop
 loop-again c = (omega arith, simp length-set (omega arith), filled-more _ (c .before .before .loop .inv .2) (omega arith) refl)
 
@@ -51,11 +33,11 @@ make-room-spec =
     Inv-loop
     μ-loop
     loop-holds
-    mul-room
-    element-copy-out-room
-    mul-room-2
-    element-write-room
-    add-j
-    loop-less
+    (λ c. omega arith)
+    (λ c. omega arith)
+    (λ c. omega arith)
+    (λ c. omega arith)
+    (λ c. omega arith)
+    (λ c. omega arith)
     loop-again
     returns)

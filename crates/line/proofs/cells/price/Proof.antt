@@ -23,21 +23,6 @@ abbrev μ-loop : tie.MeasureT-loop
 loop-holds : tie.Need-loop-holds Inv-loop μ-loop
 loop-holds c = (omega arith, placed-none _ _ _)
 
-mul-capped : tie.Need-mul-capped Inv-loop μ-loop
-mul-capped c = omega arith
-
-element-copy-out-capped : tie.Need-element-copy-out-capped Inv-loop μ-loop
-element-copy-out-capped c = omega arith
-
-add-capped : tie.Need-add-capped Inv-loop μ-loop
-add-capped c = omega arith
-
-mul-capped-2 : tie.Need-mul-capped-2 Inv-loop μ-loop
-mul-capped-2 c = omega arith
-
-element-copy-out-capped-2 : tie.Need-element-copy-out-capped-2 Inv-loop μ-loop
-element-copy-out-capped-2 c = omega arith
-
 -- the two distances, read back
 near : (c : tie.After-capped-arg2 Inv-loop μ-loop) → let l = c .before .before .before in let z = getD (l .before .before .args .dist .now) (l .loop .j) (pos 0) in rd z ≡ z
 near c = back (known _ (c .before .capped-arg .given))
@@ -50,12 +35,6 @@ capped-requires c κs =
     let l = c .before .before .before in
     rw (near c, far c, add-one) (l .before .before .pre .falling .at-cell (l .loop .j) (omega arith))
 
-mul-prices : tie.Need-mul-prices Inv-loop μ-loop
-mul-prices c = omega arith
-
-element-copy-out-prices : tie.Need-element-copy-out-prices Inv-loop μ-loop
-element-copy-out-prices c = omega arith
-
 -- the place of the cell is in the list
 in-list : (c : tie.After-prices Inv-loop μ-loop) → let l = c .before .before .before .before .before in at (l .before .before .args .place .now) (l .loop .j) < length (l .loop .prices)
 in-list c =
@@ -67,12 +46,6 @@ mul-prices-2 c = omega (arith, in-list c)
 
 slice-write-prices : tie.Need-slice-write-prices Inv-loop μ-loop
 slice-write-prices c = in-list c
-
-add-j : tie.Need-add-j Inv-loop μ-loop
-add-j c = omega arith
-
-loop-less : tie.Need-loop-less Inv-loop μ-loop
-loop-less c = omega arith
 
 loop-again : tie.Need-loop-again Inv-loop μ-loop
 unfolding clamp priceAt
@@ -97,18 +70,18 @@ price-spec =
     Inv-loop
     μ-loop
     loop-holds
-    mul-capped
-    element-copy-out-capped
-    add-capped
-    mul-capped-2
-    element-copy-out-capped-2
+    (λ c. omega arith)
+    (λ c. omega arith)
+    (λ c. omega arith)
+    (λ c. omega arith)
+    (λ c. omega arith)
     capped-requires
-    mul-prices
-    element-copy-out-prices
+    (λ c. omega arith)
+    (λ c. omega arith)
     mul-prices-2
     slice-write-prices
-    add-j
-    loop-less
+    (λ c. omega arith)
+    (λ c. omega arith)
     loop-again
     same-length
     returns)

@@ -15,25 +15,10 @@ abbrev μ-loop : tie.MeasureT-loop
 loop-holds : tie.Need-loop-holds Inv-loop μ-loop
 loop-holds c = (omega arith, putting-none _ _ _ (omega arith))
 
-mul-kept : tie.Need-mul-kept Inv-loop μ-loop
-mul-kept c = omega arith
-
-element-copy-out-kept : tie.Need-element-copy-out-kept Inv-loop μ-loop
-element-copy-out-kept c = omega arith
-
 element-copy-out-kept-2 : tie.Need-element-copy-out-kept-2 Inv-loop μ-loop
 element-copy-out-kept-2 c =
     let s = c .before .before .before .before .before in
     omega (arith, s .pre .few, s .pre .below (c .before .before .loop .r) (omega arith))
-
-element-write-kept : tie.Need-element-write-kept Inv-loop μ-loop
-element-write-kept c = omega arith
-
-add-r : tie.Need-add-r Inv-loop μ-loop
-add-r c = omega arith
-
-loop-less : tie.Need-loop-less Inv-loop μ-loop
-loop-less c = omega arith
 
 loop-again : tie.Need-loop-again Inv-loop μ-loop
 loop-again c = (omega arith, putting-more (c .before .before .before .loop .inv .1) (omega arith))
@@ -51,11 +36,11 @@ put-back-spec =
     Inv-loop
     μ-loop
     loop-holds
-    mul-kept
-    element-copy-out-kept
+    (λ c. omega arith)
+    (λ c. omega arith)
     element-copy-out-kept-2
-    element-write-kept
-    add-r
-    loop-less
+    (λ c. omega arith)
+    (λ c. omega arith)
+    (λ c. omega arith)
     loop-again
     returns)

@@ -19,18 +19,6 @@ made o = o .before .before .before .before .before
 abbrev ranked : tie.After-arrange → tie.After-ordered
 ranked a = a .before .before .before .before .before .before .before .before
 
-lay-requires : tie.Need-lay-requires
-lay-requires c κs = search needs
-
-make-room-requires : tie.Need-make-room-requires
-make-room-requires c κs = search needs
-
-ordered-requires : tie.Need-ordered-requires
-ordered-requires c κs = search needs
-
-arrange-requires : tie.Need-arrange-requires
-arrange-requires c κs = search needs
-
 plan-row-requires : tie.Need-plan-row-requires
 plan-row-requires c κs =
     let a = c .before .before .before .before .before .before in
@@ -61,10 +49,10 @@ pub solve-spec : {M : Type 1} → statement M
 solve-spec =
     tie.close
     (tie.spec
-    lay-requires
-    make-room-requires
-    ordered-requires
-    arrange-requires
+    (λ c κs. search needs)
+    (λ c κs. search needs)
+    (λ c κs. search needs)
+    (λ c κs. search needs)
     plan-row-requires
     put-back-requires
     returns)

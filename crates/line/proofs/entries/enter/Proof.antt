@@ -16,62 +16,11 @@ abbrev μ-loop : tie.MeasureT-loop
 loop-holds : tie.Need-loop-holds Inv-loop μ-loop
 loop-holds c = (omega arith, entering-none _ _ _ _ _ (omega arith))
 
-element-copy-out-if1 : tie.Need-element-copy-out-if1 Inv-loop μ-loop
-element-copy-out-if1 c = omega arith
-
-mul-if2 : tie.Need-mul-if2 Inv-loop μ-loop
-mul-if2 c = omega arith
-
-element-copy-out-if2 : tie.Need-element-copy-out-if2 Inv-loop μ-loop
-element-copy-out-if2 c = omega arith
-
-mul-if2-2 : tie.Need-mul-if2-2 Inv-loop μ-loop
-mul-if2-2 c = omega arith
-
-element-copy-out-if2-2 : tie.Need-element-copy-out-if2-2 Inv-loop μ-loop
-element-copy-out-if2-2 c = omega arith
-
-mul-entries : tie.Need-mul-entries Inv-loop μ-loop
-mul-entries c = omega arith
-
-element-copy-out-entries : tie.Need-element-copy-out-entries Inv-loop μ-loop
-element-copy-out-entries c = omega arith
-
 add-entries : tie.Need-add-entries Inv-loop μ-loop
 add-entries c = let l = c .before .before .before .before .before .before .before in omega (arith, l .before .before .before .pre .upto (l .loop .i) (omega arith))
 
-mul-entries-2 : tie.Need-mul-entries-2 Inv-loop μ-loop
-mul-entries-2 c = omega arith
-
-element-write-entries : tie.Need-element-write-entries Inv-loop μ-loop
-element-write-entries c = omega arith
-
-mul-entries-3 : tie.Need-mul-entries-3 Inv-loop μ-loop
-mul-entries-3 c = omega arith
-
-element-copy-out-entries-2 : tie.Need-element-copy-out-entries-2 Inv-loop μ-loop
-element-copy-out-entries-2 c = omega arith
-
 add-entries-2 : tie.Need-add-entries-2 Inv-loop μ-loop
 add-entries-2 c = let l = c .before .before .before .before .before .before .before in omega (arith, l .before .before .before .pre .upto (l .loop .i) (omega arith))
-
-mul-entries-4 : tie.Need-mul-entries-4 Inv-loop μ-loop
-mul-entries-4 c = omega arith
-
-element-write-entries-2 : tie.Need-element-write-entries-2 Inv-loop μ-loop
-element-write-entries-2 c = omega arith
-
-mul-entries-5 : tie.Need-mul-entries-5 Inv-loop μ-loop
-mul-entries-5 c = omega arith
-
-element-write-entries-3 : tie.Need-element-write-entries-3 Inv-loop μ-loop
-element-write-entries-3 c = omega arith
-
-add-i : tie.Need-add-i Inv-loop μ-loop
-add-i c = omega arith
-
-loop-less : tie.Need-loop-less Inv-loop μ-loop
-loop-less c = omega arith
 
 loop-again : tie.Need-loop-again Inv-loop μ-loop
 loop-again c =
@@ -98,24 +47,24 @@ enter-spec =
     Inv-loop
     μ-loop
     loop-holds
-    element-copy-out-if1
-    mul-if2
-    element-copy-out-if2
-    mul-if2-2
-    element-copy-out-if2-2
-    mul-entries
-    element-copy-out-entries
+    (λ c. omega arith)
+    (λ c. omega arith)
+    (λ c. omega arith)
+    (λ c. omega arith)
+    (λ c. omega arith)
+    (λ c. omega arith)
+    (λ c. omega arith)
     add-entries
-    mul-entries-2
-    element-write-entries
-    mul-entries-3
-    element-copy-out-entries-2
+    (λ c. omega arith)
+    (λ c. omega arith)
+    (λ c. omega arith)
+    (λ c. omega arith)
     add-entries-2
-    mul-entries-4
-    element-write-entries-2
-    mul-entries-5
-    element-write-entries-3
-    add-i
-    loop-less
+    (λ c. omega arith)
+    (λ c. omega arith)
+    (λ c. omega arith)
+    (λ c. omega arith)
+    (λ c. omega arith)
+    (λ c. omega arith)
     loop-again
     returns)

@@ -5,15 +5,6 @@ use borrow.Author.Needs.{needs}
 use Rattle.planrow.proofs.arcs.enlist.Statement.{statement}
 use Rattle.planrow.proofs.arcs.enlist.Tie as tie
 
-mul-list : tie.Need-mul-list
-mul-list c = search needs
-
-element-write-list : tie.Need-element-write-list
-element-write-list c = search needs
-
-add-result : tie.Need-add-result
-add-result c = search needs
-
 returns : tie.Need-returns
 returns c h = (refl, omega arith)
 
@@ -21,4 +12,4 @@ returns-2 : tie.Need-returns-2
 returns-2 c h = absurd (omega arith)
 
 pub enlist-spec : {M : Type 1} → statement M
-enlist-spec = tie.close (tie.spec mul-list element-write-list add-result returns returns-2)
+enlist-spec = tie.close (tie.spec (λ c. search needs) (λ c. search needs) (λ c. search needs) returns returns-2)

@@ -9,18 +9,6 @@ use Rattle.planrow.proofs.arcs.fall.Tie as tie
 returns : tie.Need-returns
 returns c = fall-bottom (c .before .pre .0) (c .if1 .taken)
 
-sub-if2 : tie.Need-sub-if2
-sub-if2 c = search needs
-
-mul-if2 : tie.Need-mul-if2
-mul-if2 c = search needs
-
-element-copy-out-if2 : tie.Need-element-copy-out-if2
-element-copy-out-if2 c = search needs
-
-sub-try-arc : tie.Need-sub-try-arc
-sub-try-arc c = search needs
-
 try-arc-requires : tie.Need-try-arc-requires
 try-arc-requires c κs = (omega arith, fall-lacks (c .before .before .before .before .before .before .before .pre .0) (omega arith) (omega arith) (omega arith))
 
@@ -35,10 +23,10 @@ fall-spec =
     tie.close
     (tie.spec
     returns
-    sub-if2
-    mul-if2
-    element-copy-out-if2
-    sub-try-arc
+    (λ c. search needs)
+    (λ c. search needs)
+    (λ c. search needs)
+    (λ c. search needs)
     try-arc-requires
     returns-2
     returns-3)

@@ -5,9 +5,6 @@ use Rattle.planrow.specs.CellArcs.{rise-lacks, rise-relaxed, rise-top}
 use Rattle.planrow.proofs.arcs.rise.Statement.{statement}
 use Rattle.planrow.proofs.arcs.rise.Tie as tie
 
-add-try-arc : tie.Need-add-try-arc
-add-try-arc c = search needs
-
 try-arc-requires : tie.Need-try-arc-requires
 try-arc-requires c κs = (omega arith, rise-lacks (c .before .before .before .before .before .pre .0) (omega arith) (omega arith))
 
@@ -18,4 +15,4 @@ returns-2 : tie.Need-returns-2
 returns-2 c = rise-top (c .before .pre .0) (omega arith)
 
 pub rise-spec : {M : Type 1} → statement M
-rise-spec = tie.close (tie.spec add-try-arc try-arc-requires returns returns-2)
+rise-spec = tie.close (tie.spec (λ c. search needs) try-arc-requires returns returns-2)

@@ -5,32 +5,11 @@ use Rattle.planrow.specs.Relaxed.{read, measured}
 use Rattle.planrow.proofs.arcs.try_arc.Statement.{statement}
 use Rattle.planrow.proofs.arcs.try_arc.Tie as tie
 
-mul-way : tie.Need-mul-way
-mul-way c = search needs
-
-element-copy-out-way : tie.Need-element-copy-out-way
-element-copy-out-way c = search needs
-
-mul-length-left : tie.Need-mul-length-left
-mul-length-left c = search needs
-
-element-copy-out-length-left : tie.Need-element-copy-out-length-left
-element-copy-out-length-left c = search needs
-
-mul-length-left-2 : tie.Need-mul-length-left-2
-mul-length-left-2 c = search needs
-
-element-copy-out-length-left-2 : tie.Need-element-copy-out-length-left-2
-element-copy-out-length-left-2 c = search needs
-
 length-left-requires : tie.Need-length-left-requires
 length-left-requires c κs = read (c .before .before .before .pre .1)
 
 add-way : tie.Need-add-way
 add-way c = omega (arith, measured (c .before .before .before .before .pre .1) (c .length-left .result) (c .length-left .ensures))
-
-relax-requires : tie.Need-relax-requires
-relax-requires c κs = search needs
 
 returns : tie.Need-returns
 returns c =
@@ -45,13 +24,13 @@ pub try-arc-spec : {M : Type 1} → statement M
 try-arc-spec =
     tie.close
     (tie.spec
-    mul-way
-    element-copy-out-way
-    mul-length-left
-    element-copy-out-length-left
-    mul-length-left-2
-    element-copy-out-length-left-2
+    (λ c. search needs)
+    (λ c. search needs)
+    (λ c. search needs)
+    (λ c. search needs)
+    (λ c. search needs)
+    (λ c. search needs)
     length-left-requires
     add-way
-    relax-requires
+    (λ c κs. search needs)
     returns)

@@ -48,26 +48,11 @@ gain-some f = f .before .before .before .before .before .before .before .before 
 
 -- ---- every cell has room: kept at once
 
-mul-a : tie.Need-mul-a
-mul-a c = search needs
-
-element-copy-out-a : tie.Need-element-copy-out-a
-element-copy-out-a c = search needs
-
-mul-b : tie.Need-mul-b
-mul-b c = search needs
-
-element-copy-out-b : tie.Need-element-copy-out-b
-element-copy-out-b c = search needs
-
 room-between-requires : tie.Need-room-between-requires
 room-between-requires c κs = omega (arith, last-node (c .before .before .before .before .before))
 
 take-room-requires : tie.Need-take-room-requires
 take-room-requires c κs = (omega (arith, last-node (c .before .before .before .before .before .before .before .before)), c .before .before .room-between .ensures (c .before .if1 .taken))
-
-element-write-kept : tie.Need-element-write-kept
-element-write-kept c = search needs
 
 returns : tie.Need-returns
 returns c w =
@@ -75,12 +60,6 @@ returns c w =
     (c .take-room .ensures)
 
 -- ---- it gains nothing: dropped
-
-mul-gain-of : tie.Need-mul-gain-of
-mul-gain-of c = search needs
-
-element-copy-out-gain-of : tie.Need-element-copy-out-gain-of
-element-copy-out-gain-of c = search needs
 
 mul-gain-of-2 : tie.Need-mul-gain-of-2
 mul-gain-of-2 c = omega (arith, first-node (c .before .before .before .before .before .before .before .before))
@@ -98,9 +77,6 @@ gain-of-requires : tie.Need-gain-of-requires
 gain-of-requires c κs =
     gains-read (c .before .before .before .before .before .before .before .before .before .before .pre)
     (known _ (c .before .before .gain-of-arg .given)) (known _ (c .before .gain-of-arg2 .given)) (known _ (c .gain-of-arg3 .given))
-
-element-write-kept-2 : tie.Need-element-write-kept-2
-element-write-kept-2 c = search needs
 
 returns-2 : tie.Need-returns-2
 returns-2 c w = dropped-unasked w (long (sliced (c .before))) (omega (arith, gain-is (c .before)))
@@ -153,22 +129,22 @@ pub insert-spec : {M : Type 1} → statement M
 insert-spec =
     tie.close
     (tie.spec
-    mul-a
-    element-copy-out-a
-    mul-b
-    element-copy-out-b
+    (λ c. search needs)
+    (λ c. search needs)
+    (λ c. search needs)
+    (λ c. search needs)
     room-between-requires
     take-room-requires
-    element-write-kept
+    (λ c. search needs)
     returns
-    mul-gain-of
-    element-copy-out-gain-of
+    (λ c. search needs)
+    (λ c. search needs)
     mul-gain-of-2
     element-copy-out-gain-of-2
     mul-gain-of-3
     element-copy-out-gain-of-3
     gain-of-requires
-    element-write-kept-2
+    (λ c. search needs)
     returns-2
     search-requires
     mul-near

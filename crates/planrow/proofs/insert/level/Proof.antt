@@ -14,18 +14,6 @@ abbrev μ-loop : tie.MeasureT-loop
 loop-holds : tie.Need-loop-holds Inv-loop μ-loop
 loop-holds c = record { zero = λ w l. absurd (omega arith) }
 
-mul-dist : tie.Need-mul-dist Inv-loop μ-loop
-mul-dist c = omega arith
-
-element-set-of-dist : tie.Need-element-set-of-dist Inv-loop μ-loop
-element-set-of-dist c = omega arith
-
-add-v : tie.Need-add-v Inv-loop μ-loop
-add-v c = omega arith
-
-loop-less : tie.Need-loop-less Inv-loop μ-loop
-loop-less c = omega arith
-
 loop-again : tie.Need-loop-again Inv-loop μ-loop
 loop-again c = flat-next (c .before .loop .inv)
 
@@ -39,9 +27,9 @@ level-spec =
     Inv-loop
     μ-loop
     loop-holds
-    mul-dist
-    element-set-of-dist
-    add-v
-    loop-less
+    (λ c. omega arith)
+    (λ c. omega arith)
+    (λ c. omega arith)
+    (λ c. omega arith)
     loop-again
     returns)

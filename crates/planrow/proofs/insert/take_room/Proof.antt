@@ -14,23 +14,8 @@ abbrev μ-loop : tie.MeasureT-loop
 loop-holds : tie.Need-loop-holds Inv-loop μ-loop
 loop-holds c = taken-none _ _ _
 
-mul-room : tie.Need-mul-room Inv-loop μ-loop
-mul-room c = omega arith
-
-element-copy-out-room : tie.Need-element-copy-out-room Inv-loop μ-loop
-element-copy-out-room c = omega arith
-
 sub-room : tie.Need-sub-room Inv-loop μ-loop
 sub-room c = taken-room (c .before .before .loop .inv) (c .before .loop-test .taken) (c .before .before .before .pre .1)
-
-element-write-room : tie.Need-element-write-room Inv-loop μ-loop
-element-write-room c = omega arith
-
-add-j : tie.Need-add-j Inv-loop μ-loop
-add-j c = omega arith
-
-loop-less : tie.Need-loop-less Inv-loop μ-loop
-loop-less c = omega arith
 
 loop-again : tie.Need-loop-again Inv-loop μ-loop
 loop-again c = taken-next (c .before .before .loop .inv) (c .before .loop-test .taken) (c .before .before .before .pre .1)
@@ -45,11 +30,11 @@ take-room-spec =
     Inv-loop
     μ-loop
     loop-holds
-    mul-room
-    element-copy-out-room
+    (λ c. omega arith)
+    (λ c. omega arith)
     sub-room
-    element-write-room
-    add-j
-    loop-less
+    (λ c. omega arith)
+    (λ c. omega arith)
+    (λ c. omega arith)
     loop-again
     returns)

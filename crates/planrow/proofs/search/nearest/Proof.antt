@@ -13,15 +13,6 @@ Inv-loop label list size floor best₀ least₀ i₀ best least i = LeastFrom la
 abbrev μ-loop : tie.MeasureT-loop
 μ-loop label list size floor best₀ least₀ i₀ best least i = i
 
-sub-best : tie.Need-sub-best Inv-loop μ-loop
-sub-best c = omega arith
-
-mul-least : tie.Need-mul-least Inv-loop μ-loop
-mul-least c = omega arith
-
-element-copy-out-least : tie.Need-element-copy-out-least Inv-loop μ-loop
-element-copy-out-least c = omega arith
-
 mul-least-2 : tie.Need-mul-least-2 Inv-loop μ-loop
 mul-least-2 c = let s = c .before in omega (arith, s .pre .node (s .args .size - 1) (omega arith))
 
@@ -34,15 +25,6 @@ loop-holds c = least-last (c .before .before .pre .some)
 returns : tie.Need-returns Inv-loop μ-loop
 returns c = let l = c .before .before in least-floor (l .loop .inv) (l .before .before .before .pre) (c .if1 .taken)
 
-sub-i : tie.Need-sub-i Inv-loop μ-loop
-sub-i c = omega arith
-
-mul-far : tie.Need-mul-far Inv-loop μ-loop
-mul-far c = omega arith
-
-element-copy-out-far : tie.Need-element-copy-out-far Inv-loop μ-loop
-element-copy-out-far c = omega arith
-
 -- the node at the place before
 node-in : (c : tie.After-far Inv-loop μ-loop) → let l = c .before .before .before in at (l .before .before .before .args .list .now) (l .loop .i - 1) ≤ 127
 node-in c = let l = c .before .before .before in l .before .before .before .pre .node (l .loop .i - 1) (omega arith)
@@ -53,14 +35,8 @@ mul-far-2 c = omega (arith, node-in c)
 element-copy-out-far-2 : tie.Need-element-copy-out-far-2 Inv-loop μ-loop
 element-copy-out-far-2 c = omega (arith, node-in c)
 
-loop-less : tie.Need-loop-less Inv-loop μ-loop
-loop-less c = omega arith
-
 loop-again : tie.Need-loop-again Inv-loop μ-loop
 loop-again c = let t = c .before .before .before .before in least-taken (t .before .loop .inv) (t .loop-test .taken) (c .if2 .taken)
-
-loop-less-2 : tie.Need-loop-less-2 Inv-loop μ-loop
-loop-less-2 c = omega arith
 
 loop-again-2 : tie.Need-loop-again-2 Inv-loop μ-loop
 loop-again-2 c = let t = c .before .before .before .before in least-stays (t .before .loop .inv) (t .loop-test .taken) (c .if2 .left)
@@ -74,20 +50,20 @@ nearest-spec =
     (tie.spec
     Inv-loop
     μ-loop
-    sub-best
-    mul-least
-    element-copy-out-least
+    (λ c. omega arith)
+    (λ c. omega arith)
+    (λ c. omega arith)
     mul-least-2
     element-copy-out-least-2
     loop-holds
     returns
-    sub-i
-    mul-far
-    element-copy-out-far
+    (λ c. omega arith)
+    (λ c. omega arith)
+    (λ c. omega arith)
     mul-far-2
     element-copy-out-far-2
-    loop-less
+    (λ c. omega arith)
     loop-again
-    loop-less-2
+    (λ c. omega arith)
     loop-again-2
     returns-2)

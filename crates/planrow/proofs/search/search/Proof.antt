@@ -21,9 +21,6 @@ start-requires c κs =
     let p = c .before .before .pre in
     (p .0 .cells-upto, p .1 .1 .1 .1)
 
-array-write-list : tie.Need-array-write-list Inv-loop μ-loop
-array-write-list c = omega arith
-
 loop-holds : tie.Need-loop-holds Inv-loop μ-loop
 loop-holds c =
     let p = c .before .before .before .before .before .pre in
@@ -53,9 +50,6 @@ mul-u c = omega (arith, place-in c)
 
 array-read-u : tie.Need-array-read-u Inv-loop μ-loop
 array-read-u c = omega (arith, place-in c)
-
-sub-size : tie.Need-sub-size Inv-loop μ-loop
-sub-size c = omega arith
 
 mul-list : tie.Need-mul-list Inv-loop μ-loop
 mul-list c = omega (arith, place-in c)
@@ -115,13 +109,13 @@ search-spec =
     Inv-loop
     μ-loop
     start-requires
-    array-write-list
+    (λ c. omega arith)
     loop-holds
     returns
     nearest-requires
     mul-u
     array-read-u
-    sub-size
+    (λ c. omega arith)
     mul-list
     array-read-list
     mul-list-2

@@ -15,32 +15,8 @@ abbrev μ-loop : tie.MeasureT-loop
 loop-holds : tie.Need-loop-holds Inv-loop μ-loop
 loop-holds c = laid-none (omega arith) (omega arith)
 
-mul-label : tie.Need-mul-label Inv-loop μ-loop
-mul-label c = omega arith
-
-element-write-label : tie.Need-element-write-label Inv-loop μ-loop
-element-write-label c = omega arith
-
-mul-rank : tie.Need-mul-rank Inv-loop μ-loop
-mul-rank c = omega arith
-
-element-write-rank : tie.Need-element-write-rank Inv-loop μ-loop
-element-write-rank c = omega arith
-
-add-v : tie.Need-add-v Inv-loop μ-loop
-add-v c = omega arith
-
-loop-less : tie.Need-loop-less Inv-loop μ-loop
-loop-less c = omega arith
-
 loop-again : tie.Need-loop-again Inv-loop μ-loop
 loop-again c = laid-more (c .before .before .before .before .before .before .pre .0) (c .before .loop .inv) (c .loop-test .taken)
-
-mul-label-2 : tie.Need-mul-label-2 Inv-loop μ-loop
-mul-label-2 c = omega arith
-
-element-write-label-2 : tie.Need-element-write-label-2 Inv-loop μ-loop
-element-write-label-2 c = omega arith
 
 returns : tie.Need-returns Inv-loop μ-loop
 returns c =
@@ -54,13 +30,13 @@ start-spec =
     Inv-loop
     μ-loop
     loop-holds
-    mul-label
-    element-write-label
-    mul-rank
-    element-write-rank
-    add-v
-    loop-less
+    (λ c. omega arith)
+    (λ c. omega arith)
+    (λ c. omega arith)
+    (λ c. omega arith)
+    (λ c. omega arith)
+    (λ c. omega arith)
     loop-again
-    mul-label-2
-    element-write-label-2
+    (λ c. omega arith)
+    (λ c. omega arith)
     returns)

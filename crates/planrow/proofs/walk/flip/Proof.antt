@@ -35,12 +35,6 @@ element-write-room-2 c = c .before .before .before .pre .down-cell (c .before .i
 returns-2 : tie.Need-returns-2
 returns-2 c = flipped-down _ _ _ _ _ (c .before .if2 .taken)
 
-element-copy-out-kept : tie.Need-element-copy-out-kept
-element-copy-out-kept c = search needs
-
-element-write-kept : tie.Need-element-write-kept
-element-write-kept c = search needs
-
 returns-3 : tie.Need-returns-3
 returns-3 c = flipped-turn _ _ _ _ _ (c .before .before .if1 .left) (c .before .if2 .left)
 
@@ -58,6 +52,6 @@ flip-spec =
     sub-room
     element-write-room-2
     returns-2
-    element-copy-out-kept
-    element-write-kept
+    (λ c. search needs)
+    (λ c. search needs)
     returns-3)

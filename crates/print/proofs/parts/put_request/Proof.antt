@@ -20,9 +20,6 @@ put-number-requires-4 c κs = omega (arith, number-ends)
 put-number-requires-5 : tie.Need-put-number-requires-5
 put-number-requires-5 c κs = omega (arith, number-ends)
 
-same-length : tie.Need-same-length
-same-length c = omega arith
-
 returns : tie.Need-returns
 returns c =
     let channel = c .before .before in
@@ -41,5 +38,5 @@ put-request-spec =
     put-number-requires-3
     put-number-requires-4
     put-number-requires-5
-    same-length
+    (λ c. omega arith)
     returns)

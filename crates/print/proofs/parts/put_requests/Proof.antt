@@ -16,44 +16,17 @@ abbrev μ-loop : tie.MeasureT-loop
 loop-holds : tie.Need-loop-holds Inv-loop μ-loop
 loop-holds c = (omega arith, printing-none _ _ _ _ _)
 
-mul-entry : tie.Need-mul-entry Inv-loop μ-loop
-mul-entry c = omega arith
-
-element-copy-out-entry : tie.Need-element-copy-out-entry Inv-loop μ-loop
-element-copy-out-entry c = omega arith
-
-mul-put-request : tie.Need-mul-put-request Inv-loop μ-loop
-mul-put-request c = omega arith
-
-element-copy-out-put-request : tie.Need-element-copy-out-put-request Inv-loop μ-loop
-element-copy-out-put-request c = omega arith
-
-mul-put-request-2 : tie.Need-mul-put-request-2 Inv-loop μ-loop
-mul-put-request-2 c = omega arith
-
-element-copy-out-put-request-2 : tie.Need-element-copy-out-put-request-2 Inv-loop μ-loop
-element-copy-out-put-request-2 c = omega arith
-
 put-request-requires : tie.Need-put-request-requires Inv-loop μ-loop
 put-request-requires c κs =
     let turn = c .before .before .before .before in
     let l = turn .before in
     request-room (l .before .before .pre .0) (turn .loop-test .taken) (l .loop .inv .1) (l .before .before .pre .1)
 
-add-i : tie.Need-add-i Inv-loop μ-loop
-add-i c = omega arith
-
-loop-less : tie.Need-loop-less Inv-loop μ-loop
-loop-less c = omega arith
-
 loop-again : tie.Need-loop-again Inv-loop μ-loop
 loop-again c =
     let turn = c .before .before .before .before .before .before .before in
     let l = turn .before in
     (omega arith, printing-more (l .before .before .pre .0) (turn .loop-test .taken) (l .loop .inv .1) (c .before .before .put-request .ensures))
-
-same-length : tie.Need-same-length Inv-loop μ-loop
-same-length c = omega arith
 
 returns : tie.Need-returns Inv-loop μ-loop
 returns c = let all : c .before .loop .i ≡ c .before .before .before .args .count = omega arith in rw all at (c .before .loop .inv .1)
@@ -65,15 +38,15 @@ put-requests-spec =
     Inv-loop
     μ-loop
     loop-holds
-    mul-entry
-    element-copy-out-entry
-    mul-put-request
-    element-copy-out-put-request
-    mul-put-request-2
-    element-copy-out-put-request-2
+    (λ c. omega arith)
+    (λ c. omega arith)
+    (λ c. omega arith)
+    (λ c. omega arith)
+    (λ c. omega arith)
+    (λ c. omega arith)
     put-request-requires
-    add-i
-    loop-less
+    (λ c. omega arith)
+    (λ c. omega arith)
     loop-again
-    same-length
+    (λ c. omega arith)
     returns)

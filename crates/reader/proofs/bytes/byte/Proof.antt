@@ -4,14 +4,8 @@ use borrow.Author.Needs.{needs}
 use Rattle.reader.proofs.bytes.byte.Statement.{statement}
 use Rattle.reader.proofs.bytes.byte.Tie as tie
 
-shared-slice-read-wide : tie.Need-shared-slice-read-wide
-shared-slice-read-wide c = search needs
-
-wide-requires : tie.Need-wide-requires
-wide-requires c κs = search needs
-
 returns : tie.Need-returns
 returns c = (c .wide .ensures, omega (arith, c .before .shared-slice-known2 .given (c .before .before .before .args .at)))
 
 pub byte-spec : {M : Type 1} → statement M
-byte-spec = tie.close (tie.spec shared-slice-read-wide wide-requires returns)
+byte-spec = tie.close (tie.spec (λ c. search needs) (λ c κs. search needs) returns)

@@ -8,17 +8,11 @@ use Rattle.reader.proofs.judge.network.Tie as tie
 returns : tie.Need-returns
 returns c = search tests depth 18
 
-known-requires : tie.Need-known-requires
-known-requires c κs = search needs
-
 returns-2 : tie.Need-returns-2
 returns-2 c = search tests depth 18
 
 returns-3 : tie.Need-returns-3
 returns-3 c = search tests depth 18
-
-fewest-requires : tie.Need-fewest-requires
-fewest-requires c κs = search needs
 
 returns-4 : tie.Need-returns-4
 returns-4 c = search tests depth 18
@@ -40,10 +34,10 @@ network-spec =
     tie.close
     (tie.spec
     returns
-    known-requires
+    (λ c κs. search needs)
     returns-2
     returns-3
-    fewest-requires
+    (λ c κs. search needs)
     returns-4
     returns-5
     returns-6

@@ -12,9 +12,6 @@ use borrow.Author.Needs.{needs}
 use Rattle.reader.proofs.records.network_at.Statement.{statement}
 use Rattle.reader.proofs.records.network_at.Tie as tie
 
-count-wrong-requires : tie.Need-count-wrong-requires
-count-wrong-requires c κs = search needs
-
 returns : tie.Need-returns
 unfolding networkAt networkRow
 returns c = sym (answer-first _ 1 _ 0 _ (sym (c .before .count-wrong .ensures) ∙ c .if1 .taken) (omega arith))
@@ -36,12 +33,6 @@ two-requires-2 c κs = omega (arith, long (c .before .before .before))
 
 blank-requires : tie.Need-blank-requires
 blank-requires c κs = omega (arith, long (c .before .before .before .before))
-
-network-requires : tie.Need-network-requires
-network-requires c κs = search needs
-
-answer-requires : tie.Need-answer-requires
-answer-requires c κs = search needs
 
 returns-2 : tie.Need-returns-2
 unfolding networkAt networkRow kindIn shapeIn nodesIn channelsIn start
@@ -65,13 +56,13 @@ pub network-at-spec : {M : Type 1} → statement M
 network-at-spec =
     tie.close
     (tie.spec
-    count-wrong-requires
+    (λ c κs. search needs)
     returns
     byte-requires
     byte-requires-2
     two-requires
     two-requires-2
     blank-requires
-    network-requires
-    answer-requires
+    (λ c κs. search needs)
+    (λ c κs. search needs)
     returns-2)

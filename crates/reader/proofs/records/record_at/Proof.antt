@@ -3,20 +3,8 @@ use borrow.Author.Needs.{needs}
 use Rattle.reader.proofs.records.record_at.Statement.{statement}
 use Rattle.reader.proofs.records.record_at.Tie as tie
 
-enum-told : tie.Need-enum-told
-enum-told c = search needs
-
-network-at-requires : tie.Need-network-at-requires
-network-at-requires c κs = search needs
-
-enum-known-due : tie.Need-enum-known-due
-enum-known-due c = search needs
-
 span-at-requires : tie.Need-span-at-requires
 span-at-requires c κs = rw (c .before .due .given .1) at (c .before .before .before .before .pre)
-
-enum-known-due-2 : tie.Need-enum-known-due-2
-enum-known-due-2 c = search needs
 
 request-at-requires : tie.Need-request-at-requires
 request-at-requires c κs = rw (c .before .due2 .given .1) at (c .before .before .before .before .pre)
@@ -34,11 +22,11 @@ pub record-at-spec : {M : Type 1} → statement M
 record-at-spec =
     tie.close
     (tie.spec
-    enum-told
-    network-at-requires
-    enum-known-due
+    (λ c. search needs)
+    (λ c κs. search needs)
+    (λ c. search needs)
     span-at-requires
-    enum-known-due-2
+    (λ c. search needs)
     request-at-requires
     returns
     returns-2

@@ -12,45 +12,6 @@ returns : tie.Need-returns
 unfolding spanAt spanRow present records
 returns c = sym (answer-first _ 5 _ _ _ (rw (le-ltb _ _ (c .if1 .taken))) (omega arith))
 
-mul-at : tie.Need-mul-at
-mul-at c = search needs
-
-byte-requires : tie.Need-byte-requires
-byte-requires c κs = search needs
-
-add-byte : tie.Need-add-byte
-add-byte c = search needs
-
-byte-requires-2 : tie.Need-byte-requires-2
-byte-requires-2 c κs = search needs
-
-add-two : tie.Need-add-two
-add-two c = search needs
-
-two-requires : tie.Need-two-requires
-two-requires c κs = search needs
-
-add-two-2 : tie.Need-add-two-2
-add-two-2 c = search needs
-
-two-requires-2 : tie.Need-two-requires-2
-two-requires-2 c κs = search needs
-
-add-blank : tie.Need-add-blank
-add-blank c = search needs
-
-blank-requires : tie.Need-blank-requires
-blank-requires c κs = search needs
-
-sub-span : tie.Need-sub-span
-sub-span c = search needs
-
-span-requires : tie.Need-span-requires
-span-requires c κs = search needs
-
-answer-requires : tie.Need-answer-requires
-answer-requires c κs = search needs
-
 returns-2 : tie.Need-returns-2
 unfolding spanAt spanRow kindIn markIn numberIn limitIn start present records
 returns-2 c =
@@ -73,17 +34,17 @@ span-at-spec =
     tie.close
     (tie.spec
     returns
-    mul-at
-    byte-requires
-    add-byte
-    byte-requires-2
-    add-two
-    two-requires
-    add-two-2
-    two-requires-2
-    add-blank
-    blank-requires
-    sub-span
-    span-requires
-    answer-requires
+    (λ c. search needs)
+    (λ c κs. search needs)
+    (λ c. search needs)
+    (λ c κs. search needs)
+    (λ c. search needs)
+    (λ c κs. search needs)
+    (λ c. search needs)
+    (λ c κs. search needs)
+    (λ c. search needs)
+    (λ c κs. search needs)
+    (λ c. search needs)
+    (λ c κs. search needs)
+    (λ c κs. search needs)
     returns-2)

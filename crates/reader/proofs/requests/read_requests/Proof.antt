@@ -18,23 +18,8 @@ Inv-loop part before network nodes requests₀ count i₀ requests i = (i ≤ co
 abbrev μ-loop : tie.MeasureT-loop
 μ-loop part before network nodes requests₀ count i₀ requests i = count - i
 
-no-request-requires : tie.Need-no-request-requires Inv-loop μ-loop
-no-request-requires c κs = search needs
-
 loop-holds : tie.Need-loop-holds Inv-loop μ-loop
 loop-holds c = (omega arith, omega arith, so-far-none _ (replicate 256 _) refl)
-
-through-view-requires : tie.Need-through-view-requires Inv-loop μ-loop
-through-view-requires c κs = omega arith
-
-enum-known-reading : tie.Need-enum-known-reading Inv-loop μ-loop
-enum-known-reading c = search needs
-
-enum-told : tie.Need-enum-told Inv-loop μ-loop
-enum-told c = search needs
-
-refusal-of-requires : tie.Need-refusal-of-requires Inv-loop μ-loop
-refusal-of-requires c κs = search needs
 
 returns : tie.Need-returns Inv-loop μ-loop
 unfolding records
@@ -46,12 +31,6 @@ returns c =
       all = λ t. absurd (of-yes t);
       inList = stopped-here _ _ _ (turn .loop .i) _ _ _ _ (turn .loop .inv .2) (call .before .loop-test .taken) (call .through-view .ensures) (c .before .enum-told .given .1) (c .refusal-of .ensures);
     }
-
-enum-known-got : tie.Need-enum-known-got Inv-loop μ-loop
-enum-known-got c = search needs
-
-add-t19 : tie.Need-add-t19 Inv-loop μ-loop
-add-t19 c = omega arith
 
 returns-2 : tie.Need-returns-2 Inv-loop μ-loop
 returns-2 c =
@@ -67,17 +46,8 @@ in-room c =
     let call = reading .before .before in
     request-within _ _ _ _ _ _ (call .through-view .ensures) (reading .reading .given .1)
 
-mul-requests : tie.Need-mul-requests Inv-loop μ-loop
-mul-requests c = omega arith
-
 array-set-from-requests : tie.Need-array-set-from-requests Inv-loop μ-loop
 array-set-from-requests c = in-room c
-
-add-i : tie.Need-add-i Inv-loop μ-loop
-add-i c = omega arith
-
-loop-less : tie.Need-loop-less Inv-loop μ-loop
-loop-less c = omega arith
 
 loop-again : tie.Need-loop-again Inv-loop μ-loop
 loop-again c =
@@ -103,19 +73,19 @@ read-requests-spec =
     (tie.spec
     Inv-loop
     μ-loop
-    no-request-requires
+    (λ c κs. search needs)
     loop-holds
-    through-view-requires
-    enum-known-reading
-    enum-told
-    refusal-of-requires
+    (λ c κs. omega arith)
+    (λ c. search needs)
+    (λ c. search needs)
+    (λ c κs. search needs)
     returns
-    enum-known-got
-    add-t19
+    (λ c. search needs)
+    (λ c. omega arith)
     returns-2
-    mul-requests
+    (λ c. omega arith)
     array-set-from-requests
-    add-i
-    loop-less
+    (λ c. omega arith)
+    (λ c. omega arith)
     loop-again
     returns-3)

@@ -14,12 +14,9 @@ returns-2 : tie.Need-returns-2
 unfolding spansOf
 returns-2 c = simp (ne-eqb _ _ (c .before .if1 .left)) (omega arith)
 
-sub-result : tie.Need-sub-result
-sub-result c = search needs
-
 returns-3 : tie.Need-returns-3
 unfolding spansOf
 returns-3 c = simp (ne-eqb _ _ (c .before .if1 .left))
 
 pub spans-of-spec : {M : Type 1} → statement M
-spans-of-spec = tie.close (tie.spec returns returns-2 sub-result returns-3)
+spans-of-spec = tie.close (tie.spec returns returns-2 (λ c. search needs) returns-3)

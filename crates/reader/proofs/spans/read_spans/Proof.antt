@@ -21,23 +21,11 @@ loop-holds c = (omega arith, omega arith, so-far-none _ (replicate 64 0) refl)
 through-view-requires : tie.Need-through-view-requires Inv-loop μ-loop
 through-view-requires c κs = (omega arith, omega arith)
 
-enum-known-reading : tie.Need-enum-known-reading Inv-loop μ-loop
-enum-known-reading c = search needs
-
-enum-told : tie.Need-enum-told Inv-loop μ-loop
-enum-told c = search needs
-
-refusal-of-requires : tie.Need-refusal-of-requires Inv-loop μ-loop
-refusal-of-requires c κs = search needs
-
 returns : tie.Need-returns Inv-loop μ-loop
 returns c =
     let call = c .before .before .before in
     let turn = call .before .before in
     stopped-here _ _ _ (turn .loop .at - 1) _ _ _ _ (turn .loop .inv .2) (omega arith) (call .through-view .ensures ∙ span-due _ _ _ (turn .loop .inv .0)) (c .before .enum-told .given .1) (c .refusal-of .ensures)
-
-enum-known-got : tie.Need-enum-known-got Inv-loop μ-loop
-enum-known-got c = search needs
 
 returns-2 : tie.Need-returns-2 Inv-loop μ-loop
 returns-2 c =
@@ -45,21 +33,6 @@ returns-2 c =
     let call = reading .before .before in
     let turn = call .before .before in
     absurd (no-other 1 0 2 tt tt (rw (got-span _ _ (turn .loop .at) _ _ (call .through-view .ensures) (reading .reading .given .1)) at (c .match2 .keys2)))
-
-sub-limits : tie.Need-sub-limits Inv-loop μ-loop
-sub-limits c = omega arith
-
-mul-limits : tie.Need-mul-limits Inv-loop μ-loop
-mul-limits c = omega arith
-
-array-write-limits : tie.Need-array-write-limits Inv-loop μ-loop
-array-write-limits c = omega arith
-
-add-at : tie.Need-add-at Inv-loop μ-loop
-add-at c = omega arith
-
-loop-less : tie.Need-loop-less Inv-loop μ-loop
-loop-less c = omega arith
 
 loop-again : tie.Need-loop-again Inv-loop μ-loop
 loop-again c =
@@ -80,16 +53,16 @@ read-spans-spec =
     μ-loop
     loop-holds
     through-view-requires
-    enum-known-reading
-    enum-told
-    refusal-of-requires
+    (λ c. search needs)
+    (λ c. search needs)
+    (λ c κs. search needs)
     returns
-    enum-known-got
+    (λ c. search needs)
     returns-2
-    sub-limits
-    mul-limits
-    array-write-limits
-    add-at
-    loop-less
+    (λ c. omega arith)
+    (λ c. omega arith)
+    (λ c. omega arith)
+    (λ c. omega arith)
+    (λ c. omega arith)
     loop-again
     returns-3)

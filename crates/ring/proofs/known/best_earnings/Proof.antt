@@ -6,17 +6,11 @@ use Rattle.ring.specs.Known.{ring-places}
 use Rattle.ring.proofs.known.best_earnings.Statement.{statement}
 use Rattle.ring.proofs.known.best_earnings.Tie as tie
 
-places-requires : tie.Need-places-requires
-places-requires c κs = search needs
-
 best-earnings-requires : tie.Need-best-earnings-requires
 best-earnings-requires c κs =
     let m = c .before .before in
     let p = m .before .before .before .before in
     (p .pre .0, ring-places (p .pre .1 .0) (p .pre .1 .2) (m .places .ensures) (omega arith))
-
-bridge-requires : tie.Need-bridge-requires
-bridge-requires c κs = search needs
 
 returns : tie.Need-returns
 returns c =
@@ -25,4 +19,4 @@ returns c =
     (e .best-earnings .ensures .0, c .bridge .ensures (e .best-earnings .ensures .1 (p .pre .1 .3)))
 
 pub best-earnings-spec : {M : Type 1} → statement M
-best-earnings-spec = tie.close (tie.spec places-requires best-earnings-requires bridge-requires returns)
+best-earnings-spec = tie.close (tie.spec (λ c κs. search needs) best-earnings-requires (λ c κs. search needs) returns)

@@ -8,9 +8,6 @@ use Rattle.ring.specs.Known.{low-more}
 use Rattle.ring.proofs.known.bridge.Statement.{statement}
 use Rattle.ring.proofs.known.bridge.Tie as tie
 
-span-at-requires : tie.Need-span-at-requires
-span-at-requires c κs = search needs
-
 -- the neighbours
 after-in : (c : tie.After-span-at) → c .span-at .result < 64
 after-in c =
@@ -28,26 +25,11 @@ mul-after c = omega (arith, after-in c)
 element-copy-out-after : tie.Need-element-copy-out-after
 element-copy-out-after c = omega (arith, after-in c)
 
-sub-span-at : tie.Need-sub-span-at
-sub-span-at c = search needs
-
-span-at-requires-2 : tie.Need-span-at-requires-2
-span-at-requires-2 c κs = search needs
-
 mul-before : tie.Need-mul-before
 mul-before c = omega (arith, before-in c)
 
 element-copy-out-before : tie.Need-element-copy-out-before
 element-copy-out-before c = omega (arith, before-in c)
-
-higher-requires : tie.Need-higher-requires
-higher-requires c κs = search needs
-
-mul-known : tie.Need-mul-known
-mul-known c = search needs
-
-element-write-known : tie.Need-element-write-known
-element-write-known c = search needs
 
 returns : tie.Need-returns
 returns c low = low-more (omega arith) (omega (arith, c .higher .ensures, low .upto (c .before .before .span-at2 .result), low .upto (c .before .before .before .before .span-at .result))) low
@@ -56,14 +38,14 @@ pub bridge-spec : {M : Type 1} → statement M
 bridge-spec =
     tie.close
     (tie.spec
-    span-at-requires
+    (λ c κs. search needs)
     mul-after
     element-copy-out-after
-    sub-span-at
-    span-at-requires-2
+    (λ c. search needs)
+    (λ c κs. search needs)
     mul-before
     element-copy-out-before
-    higher-requires
-    mul-known
-    element-write-known
+    (λ c κs. search needs)
+    (λ c. search needs)
+    (λ c. search needs)
     returns)

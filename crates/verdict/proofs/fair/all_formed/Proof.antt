@@ -21,35 +21,11 @@ abbrev μ-loop : tie.MeasureT-loop
 loop-holds : tie.Need-loop-holds Inv-loop μ-loop
 loop-holds c = (omega arith, λ k h. absurd (omega arith))
 
-entry-at-requires : tie.Need-entry-at-requires Inv-loop μ-loop
-entry-at-requires c κs = omega arith
-
-mul-formed : tie.Need-mul-formed Inv-loop μ-loop
-mul-formed c = omega arith
-
-element-copy-out-formed : tie.Need-element-copy-out-formed Inv-loop μ-loop
-element-copy-out-formed c = omega arith
-
-mul-formed-2 : tie.Need-mul-formed-2 Inv-loop μ-loop
-mul-formed-2 c = omega arith
-
-element-copy-out-formed-2 : tie.Need-element-copy-out-formed-2 Inv-loop μ-loop
-element-copy-out-formed-2 c = omega arith
-
-formed-requires : tie.Need-formed-requires Inv-loop μ-loop
-formed-requires c κs = search needs
-
 returns : tie.Need-returns Inv-loop μ-loop
 returns c =
     let here = c .before .before .before .before in
     let l = here .before .before .loop in
     sym (each-fails _ _ (l .i) (omega arith) (sym (rw (here .entry-at .ensures) at (c .before .formed .ensures)) ∙ not-true _ (c .if1 .taken)))
-
-add-i : tie.Need-add-i Inv-loop μ-loop
-add-i c = omega arith
-
-loop-less : tie.Need-loop-less Inv-loop μ-loop
-loop-less c = omega arith
 
 loop-again : tie.Need-loop-again Inv-loop μ-loop
 loop-again c =
@@ -67,14 +43,14 @@ all-formed-spec =
     Inv-loop
     μ-loop
     loop-holds
-    entry-at-requires
-    mul-formed
-    element-copy-out-formed
-    mul-formed-2
-    element-copy-out-formed-2
-    formed-requires
+    (λ c κs. omega arith)
+    (λ c. omega arith)
+    (λ c. omega arith)
+    (λ c. omega arith)
+    (λ c. omega arith)
+    (λ c κs. search needs)
     returns
-    add-i
-    loop-less
+    (λ c. omega arith)
+    (λ c. omega arith)
     loop-again
     returns-2)

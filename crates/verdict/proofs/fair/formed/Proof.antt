@@ -12,9 +12,6 @@ returns : tie.Need-returns
 unfolding formedAt
 returns c = rw (eq-eqb _ 0 (c .if1 .taken))
 
-way-of-requires : tie.Need-way-of-requires
-way-of-requires c κs = search needs
-
 returns-2 : tie.Need-returns-2
 unfolding formedAt
 returns-2 c = rw (← c .before .way-of .ensures, ne-eqb _ 0 (c .before .before .if1 .left), ne-eqb _ _ (c .if2 .taken))
@@ -37,4 +34,4 @@ returns-4 c =
     )
 
 pub formed-spec : {M : Type 1} → statement M
-formed-spec = tie.close (tie.spec returns way-of-requires returns-2 returns-3 returns-4)
+formed-spec = tie.close (tie.spec returns (λ c κs. search needs) returns-2 returns-3 returns-4)

@@ -7,11 +7,8 @@ use Rattle.verdict.proofs.fair.from.Tie as tie
 returns : tie.Need-returns
 returns c = rw (eq-eqb _ 0 (c .if1 .taken))
 
-lower-requires : tie.Need-lower-requires
-lower-requires c κs = search needs
-
 returns-2 : tie.Need-returns-2
 returns-2 c = rw (ne-eqb _ 0 (c .before .if1 .left)) (c .lower .ensures)
 
 pub from-spec : {M : Type 1} → statement M
-from-spec = tie.close (tie.spec returns lower-requires returns-2)
+from-spec = tie.close (tie.spec returns (λ c κs. search needs) returns-2)

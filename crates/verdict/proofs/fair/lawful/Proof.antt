@@ -6,14 +6,8 @@ use Rattle.verdict.specs.Lawful.{can-look, entries-break, spans-obey}
 use Rattle.verdict.proofs.fair.lawful.Statement.{statement}
 use Rattle.verdict.proofs.fair.lawful.Tie as tie
 
-all-formed-requires : tie.Need-all-formed-requires
-all-formed-requires c κs = search needs
-
 returns : tie.Need-returns
 returns c book drawn k = entries-break _ drawn k (c .before .all-formed .ensures) (not-true _ (c .if1 .taken))
-
-lay-requires : tie.Need-lay-requires
-lay-requires c κs = search needs
 
 spans-fair-requires : tie.Need-spans-fair-requires
 spans-fair-requires c κs =
@@ -26,4 +20,4 @@ returns-2 c book drawn k =
     spans-obey _ drawn k (laid .before .before .all-formed .ensures) (not-false _ (laid .before .if1 .left)) (laid .lay .ensures) (c .spans-fair .ensures)
 
 pub lawful-spec : {M : Type 1} → statement M
-lawful-spec = tie.close (tie.spec all-formed-requires returns lay-requires spans-fair-requires returns-2)
+lawful-spec = tie.close (tie.spec (λ c κs. search needs) returns (λ c κs. search needs) spans-fair-requires returns-2)

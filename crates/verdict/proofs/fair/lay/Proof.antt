@@ -18,63 +18,6 @@ abbrev μ-loop : tie.MeasureT-loop
 loop-holds : tie.Need-loop-holds Inv-loop μ-loop
 loop-holds c = (omega arith, laying-none _ _ _ refl refl refl)
 
-entry-at-requires : tie.Need-entry-at-requires Inv-loop μ-loop
-entry-at-requires c κs = omega arith
-
-mul-from : tie.Need-mul-from Inv-loop μ-loop
-mul-from c = omega arith
-
-element-copy-out-from : tie.Need-element-copy-out-from Inv-loop μ-loop
-element-copy-out-from c = omega arith
-
-mul-from-2 : tie.Need-mul-from-2 Inv-loop μ-loop
-mul-from-2 c = omega arith
-
-element-copy-out-from-2 : tie.Need-element-copy-out-from-2 Inv-loop μ-loop
-element-copy-out-from-2 c = omega arith
-
-from-requires : tie.Need-from-requires Inv-loop μ-loop
-from-requires c κs = search needs
-
-mul-lo : tie.Need-mul-lo Inv-loop μ-loop
-mul-lo c = omega arith
-
-array-write-lo : tie.Need-array-write-lo Inv-loop μ-loop
-array-write-lo c = omega arith
-
-mul-upto : tie.Need-mul-upto Inv-loop μ-loop
-mul-upto c = omega arith
-
-element-copy-out-upto : tie.Need-element-copy-out-upto Inv-loop μ-loop
-element-copy-out-upto c = omega arith
-
-mul-upto-2 : tie.Need-mul-upto-2 Inv-loop μ-loop
-mul-upto-2 c = omega arith
-
-element-copy-out-upto-2 : tie.Need-element-copy-out-upto-2 Inv-loop μ-loop
-element-copy-out-upto-2 c = omega arith
-
-upto-requires : tie.Need-upto-requires Inv-loop μ-loop
-upto-requires c κs = search needs
-
-mul-hi : tie.Need-mul-hi Inv-loop μ-loop
-mul-hi c = omega arith
-
-array-write-hi : tie.Need-array-write-hi Inv-loop μ-loop
-array-write-hi c = omega arith
-
-mul-channel : tie.Need-mul-channel Inv-loop μ-loop
-mul-channel c = omega arith
-
-array-write-channel : tie.Need-array-write-channel Inv-loop μ-loop
-array-write-channel c = omega arith
-
-add-i : tie.Need-add-i Inv-loop μ-loop
-add-i c = omega arith
-
-loop-less : tie.Need-loop-less Inv-loop μ-loop
-loop-less c = omega arith
-
 loop-again : tie.Need-loop-again Inv-loop μ-loop
 unfolding kept channel
 loop-again c =
@@ -95,24 +38,24 @@ lay-spec =
     Inv-loop
     μ-loop
     loop-holds
-    entry-at-requires
-    mul-from
-    element-copy-out-from
-    mul-from-2
-    element-copy-out-from-2
-    from-requires
-    mul-lo
-    array-write-lo
-    mul-upto
-    element-copy-out-upto
-    mul-upto-2
-    element-copy-out-upto-2
-    upto-requires
-    mul-hi
-    array-write-hi
-    mul-channel
-    array-write-channel
-    add-i
-    loop-less
+    (λ c κs. omega arith)
+    (λ c. omega arith)
+    (λ c. omega arith)
+    (λ c. omega arith)
+    (λ c. omega arith)
+    (λ c κs. search needs)
+    (λ c. omega arith)
+    (λ c. omega arith)
+    (λ c. omega arith)
+    (λ c. omega arith)
+    (λ c. omega arith)
+    (λ c. omega arith)
+    (λ c κs. search needs)
+    (λ c. omega arith)
+    (λ c. omega arith)
+    (λ c. omega arith)
+    (λ c. omega arith)
+    (λ c. omega arith)
+    (λ c. omega arith)
     loop-again
     returns)

@@ -17,12 +17,6 @@ abbrev μ-loop : tie.MeasureT-loop
 loop-holds : tie.Need-loop-holds Inv-loop μ-loop
 loop-holds c = (omega arith, fair-none)
 
-mul-span-fair : tie.Need-mul-span-fair Inv-loop μ-loop
-mul-span-fair c = omega arith
-
-element-copy-out-span-fair : tie.Need-element-copy-out-span-fair Inv-loop μ-loop
-element-copy-out-span-fair c = omega arith
-
 span-fair-requires : tie.Need-span-fair-requires Inv-loop μ-loop
 span-fair-requires c κs = (omega arith, c .before .before .before .pre .1)
 
@@ -30,12 +24,6 @@ returns : tie.Need-returns Inv-loop μ-loop
 returns c =
     let fair = c .before .span-fair .ensures in
     record { sure = λ e. absurd (of-yes e); whole = λ all. absurd (of-yes (sym (not-true _ (c .if1 .taken)) ∙ fair .whole (all .on _ (omega arith)))) }
-
-add-s : tie.Need-add-s Inv-loop μ-loop
-add-s c = omega arith
-
-loop-less : tie.Need-loop-less Inv-loop μ-loop
-loop-less c = omega arith
 
 loop-again : tie.Need-loop-again Inv-loop μ-loop
 loop-again c =
@@ -55,11 +43,11 @@ spans-fair-spec =
     Inv-loop
     μ-loop
     loop-holds
-    mul-span-fair
-    element-copy-out-span-fair
+    (λ c. omega arith)
+    (λ c. omega arith)
     span-fair-requires
     returns
-    add-s
-    loop-less
+    (λ c. omega arith)
+    (λ c. omega arith)
     loop-again
     returns-2)

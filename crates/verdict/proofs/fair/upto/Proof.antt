@@ -7,11 +7,8 @@ use Rattle.verdict.proofs.fair.upto.Tie as tie
 returns : tie.Need-returns
 returns c = rw (eq-eqb _ 0 (c .if1 .taken))
 
-upper-requires : tie.Need-upper-requires
-upper-requires c κs = search needs
-
 returns-2 : tie.Need-returns-2
 returns-2 c = rw (ne-eqb _ 0 (c .before .if1 .left)) (c .upper .ensures)
 
 pub upto-spec : {M : Type 1} → statement M
-upto-spec = tie.close (tie.spec returns upper-requires returns-2)
+upto-spec = tie.close (tie.spec returns (λ c κs. search needs) returns-2)

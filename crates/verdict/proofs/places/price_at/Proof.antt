@@ -4,15 +4,9 @@ use Rattle.book.specs.Bytes.{priceIn}
 use Rattle.verdict.proofs.places.price_at.Statement.{statement}
 use Rattle.verdict.proofs.places.price_at.Tie as tie
 
-mul-four : tie.Need-mul-four
-mul-four c = search needs
-
-four-requires : tie.Need-four-requires
-four-requires c κs = search needs
-
 returns : tie.Need-returns
 unfolding priceIn
 returns c = c .four .ensures
 
 pub price-at-spec : {M : Type 1} → statement M
-price-at-spec = tie.close (tie.spec mul-four four-requires returns)
+price-at-spec = tie.close (tie.spec (λ c. search needs) (λ c κs. search needs) returns)

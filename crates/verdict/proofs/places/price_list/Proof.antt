@@ -17,21 +17,6 @@ abbrev μ-loop : tie.MeasureT-loop
 loop-holds : tie.Need-loop-holds Inv-loop μ-loop
 loop-holds c = (omega arith, omega arith, filled-none _ _)
 
-price-at-requires : tie.Need-price-at-requires Inv-loop μ-loop
-price-at-requires c κs = omega arith
-
-mul-list : tie.Need-mul-list Inv-loop μ-loop
-mul-list c = omega arith
-
-element-write-list : tie.Need-element-write-list Inv-loop μ-loop
-element-write-list c = omega arith
-
-add-s : tie.Need-add-s Inv-loop μ-loop
-add-s c = omega arith
-
-loop-less : tie.Need-loop-less Inv-loop μ-loop
-loop-less c = omega arith
-
 loop-again : tie.Need-loop-again Inv-loop μ-loop
 loop-again c =
     let l = c .before .before .loop in
@@ -47,10 +32,10 @@ price-list-spec =
     Inv-loop
     μ-loop
     loop-holds
-    price-at-requires
-    mul-list
-    element-write-list
-    add-s
-    loop-less
+    (λ c κs. omega arith)
+    (λ c. omega arith)
+    (λ c. omega arith)
+    (λ c. omega arith)
+    (λ c. omega arith)
     loop-again
     returns)

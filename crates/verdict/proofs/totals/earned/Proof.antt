@@ -18,18 +18,6 @@ abbrev μ-loop : tie.MeasureT-loop
 loop-holds : tie.Need-loop-holds Inv-loop μ-loop
 loop-holds c = (omega arith, earning-none)
 
-entry-at-requires : tie.Need-entry-at-requires Inv-loop μ-loop
-entry-at-requires c κs = omega arith
-
-mul-kept-profit : tie.Need-mul-kept-profit Inv-loop μ-loop
-mul-kept-profit c = omega arith
-
-element-copy-out-kept-profit : tie.Need-element-copy-out-kept-profit Inv-loop μ-loop
-element-copy-out-kept-profit c = omega arith
-
-kept-profit-requires : tie.Need-kept-profit-requires Inv-loop μ-loop
-kept-profit-requires c κs = search needs
-
 add-sum : tie.Need-add-sum Inv-loop μ-loop
 add-sum c =
     let start = c .before .before .before .before .before .before in
@@ -41,12 +29,6 @@ add-sum c =
       start .pre .profit-upto i (omega arith),
       start .pre .count-upto,
     )
-
-add-i : tie.Need-add-i Inv-loop μ-loop
-add-i c = omega arith
-
-loop-less : tie.Need-loop-less Inv-loop μ-loop
-loop-less c = omega arith
 
 loop-again : tie.Need-loop-again Inv-loop μ-loop
 loop-again c =
@@ -67,12 +49,12 @@ earned-spec =
     Inv-loop
     μ-loop
     loop-holds
-    entry-at-requires
-    mul-kept-profit
-    element-copy-out-kept-profit
-    kept-profit-requires
+    (λ c κs. omega arith)
+    (λ c. omega arith)
+    (λ c. omega arith)
+    (λ c κs. search needs)
     add-sum
-    add-i
-    loop-less
+    (λ c. omega arith)
+    (λ c. omega arith)
     loop-again
     returns)
