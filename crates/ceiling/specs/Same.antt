@@ -1,6 +1,6 @@
 -- Two price lists with the same price for each span have the same ceiling: prices past the spans are not looked at. Assumes nothing.
 use mathlib.Core.Path.{_≡_, ap, ap₂}
-use Prim.Native.Nat.{ℕ, _*_, _-_, _<_}
+use Prim.Native.Nat.{ℕ, _+_, _*_, _-_, _<_}
 use Rattle.sums.specs.Sums.{when, Σ-ext}
 use Rattle.book.specs.Book.{Book, spans, limit, count, profit}
 use Rattle.rules.specs.Ways.{crossed}
