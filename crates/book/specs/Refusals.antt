@@ -112,22 +112,25 @@ spanDue f r = ltb 0 r && leb r (spansIn f)
 abbrev pub requestDue : List ℕ → ℕ → Bool
 requestDue f r = ltb (spansIn f) r && ltb 0 r
 
--- the table: row n stands at place n, and says whether it is broken at record r
-unfoldable pub rows : List ℕ → ℕ → List Bool
-rows f r =
+-- the table: row n stands at place n, under the kind of record that it is about, and says whether record r breaks it
+abbrev pub byKind : (network span request : Bool) → List ℕ → ℕ → List Bool
+byKind network span request f r =
     false
-    ∷ (networkDue f r && countWrong f)
-    ∷ (networkDue f r && networkWrong f)
-    ∷ (networkDue f r && nodesWrong f)
-    ∷ (networkDue f r && channelsWrong f)
-    ∷ (spanDue f r && spanWrong f r)
-    ∷ (spanDue f r && markWrong f r)
-    ∷ (spanDue f r && limitWrong f r)
-    ∷ (requestDue f r && tooMany f r)
-    ∷ (requestDue f r && requestWrong f r)
-    ∷ (requestDue f r && endsWrong f r)
-    ∷ (requestDue f r && profitWrong f r)
+    ∷ (network && countWrong f)
+    ∷ (network && networkWrong f)
+    ∷ (network && nodesWrong f)
+    ∷ (network && channelsWrong f)
+    ∷ (span && spanWrong f r)
+    ∷ (span && markWrong f r)
+    ∷ (span && limitWrong f r)
+    ∷ (request && tooMany f r)
+    ∷ (request && requestWrong f r)
+    ∷ (request && endsWrong f r)
+    ∷ (request && profitWrong f r)
     ∷ []
+
+unfoldable pub rows : List ℕ → ℕ → List Bool
+rows f r = byKind (networkDue f r) (spanDue f r) (requestDue f r) f r
 
 abbrev pub broken : List ℕ → ℕ → ℕ → Bool
 broken f r n = getD (rows f r) n false

@@ -16,6 +16,7 @@ use Rattle.verdict.specs.Checked.{checkedOf}
 use Rattle.planner.specs.declared.Answer.the-variants as Planner
 use Rattle.planner.specs.declared.BookPlan.{BookPlan}
 use Rattle.planner.specs.Promise.{BookPlanned}
+use Rattle.planner.specs.Cases.{is-refused}
 use Rattle.desk.specs.Promise.{PlanAnswer}
 
 -- reading: the same book, or the same number and place
@@ -48,11 +49,7 @@ checked-equal file entries prices {c} {d} p q = same-checked c d (p ∙ sym q)
 pub planner-refusal-equal :
     {file : List ℕ} {entryPlaces pricePlaces : ℕ} {r other : BookPlan} {refusal : Refusal}
     → BookPlanned file entryPlaces pricePlaces r → BookPlanned file entryPlaces pricePlaces other → r .answer ≡ Planner.Refused refusal → other .answer ≡ Planner.Refused refusal
-planner-refusal-equal {file} {entryPlaces} {pricePlaces} {r} {other} {refusal} p q e = go (plannableIn file entryPlaces pricePlaces) refl
-  where
-    go : (o : Outcome Book) → plannableIn file entryPlaces pricePlaces ≡ o → other .answer ≡ Planner.Refused refusal
-    go (refused n at) is = q .refusal n at is ∙ sym (p .refusal n at is) ∙ e
-    go (done book) is = let z : _≡_ {A = ℕ} 0 1 = let s = p .plan book is .says in cc in absurd (omega arith)
+planner-refusal-equal p q e = let is = is-refused p e in q .refusal _ _ is
 
 -- the desk: where the book or the lists are refused, the answers are equal, and so is every byte of both lists afterwards
 module _ {file entries prices entries₁ prices₁ entries₂ prices₂ : List ℕ} {answer₁ answer₂ number place : ℕ}

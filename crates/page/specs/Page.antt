@@ -8,10 +8,10 @@ use Prim.Native.Nat.{ℕ, _≤_}
 use native.Mathlib.Omega.{arith}
 use borrow.Author.Tests.{le-ltb}
 use lib.ListN.{length, take, drop, length-take}
-use Rattle.sums.specs.Table.{table, table-at}
+use Rattle.sums.specs.Table.{table}
 use Rattle.book.specs.Book as Books
-use Rattle.book.specs.Book.{Book, isLine, spans, spansOf, limit, profit}
-use Rattle.book.specs.Columns.{at, Holds}
+use Rattle.book.specs.Book.{Book, isLine, spans, spansOf, profit}
+use Rattle.book.specs.Columns.{at}
 use Rattle.book.specs.Reading.{Outcome, done, refused, andThen, reading}
 use Rattle.book.specs.Sound.{Sound, sound}
 use Rattle.rules.specs.Plans.{Plan}
@@ -25,6 +25,7 @@ use Rattle.reader.specs.declared.Refusal.{Refusal}
 use Rattle.planner.specs.declared.BookPlan.{BookPlan}
 use Rattle.planner.specs.declared.Answer.the-variants.{Planned, Refused}
 use Rattle.planner.specs.Promise.{PlanOf, BookPlanned}
+use Rattle.planner.specs.Cases.{is-refused, is-planned, plan-holds}
 
 -- a plan that the planner could hand back, as text
 pub record PlanPage (book : Book) (out : List ℕ) (r : ℕ) : Type 0 where
@@ -68,91 +69,66 @@ put-inside {after} {next} p = omega (arith, length-take next after, ap length (p
 -- ---- the two ways out
 
 module _ {file : List ℕ} {r : BookPlan} (b : BookPlanned file 256 64 r) where
-  told : (n p : ℕ) → reading file ≡ refused n p → r .answer ≡ Refused (record { number = n; place = p })
-  told n p e = b .refusal n p (plannable-is file ∙ e)
-
-  made : (book : Book) → reading file ≡ done book → PlanOf book r
-  made book e = b .plan book (plannable-is file ∙ e)
-
   pub page-refused : {refusal : Refusal} {before after : List ℕ} {k : ℕ} → r .answer ≡ Refused refusal → PrintsRefusal (refusal .number) (refusal .place) before after k → Paged file before after k
-  page-refused {refusal} e prints =
+  page-refused {refusal} {after} {k} e prints =
       record {
         fits = prints .fits;
         inside = put-inside (prints .text);
         later = prints .text .beyond;
-        refusal = λ n p h. let q : refusal ≡ record { number = n; place = p } = same (told n p h) in put-front (prints .text) ∙ ap (λ x. printedRefusal (x .number) (x .place)) q;
-        plan = λ book h. absurd (never (made book h .says));
+        refusal = λ n p h. let is = read in let number : refusal .number ≡ n = cc in let place : refusal .place ≡ p = cc in rw (← number, ← place) (put-front (prints .text));
+        plan = λ book h. let is = read in let z : _≡_ {A = ℕ} 0 1 = cc in absurd (omega arith);
       }
     where
-      same : {other : Refusal} → r .answer ≡ Refused other → refusal ≡ other
-      same h = cc
-
-      never : {x y z : ℕ} → r .answer ≡ Planned x y z → ⊥
-      never h = let w : _≡_ {A = ℕ} 0 1 = cc in omega arith
-
-  -- the columns of a plan hold the book's requests
-  held : {book : Book} → PlanOf book r → Holds book (r .count) (book .limits) (r .a) (r .b) (table (r .count) (profit book))
-  unfolding limit
-  held {book} p =
-      record {
-        counted = p .count-is;
-        limit-is = λ s l. refl;
-        a-is = λ i l. p .a-is i (omega (arith, p .count-is));
-        b-is = λ i l. p .b-is i (omega (arith, p .count-is));
-        profit-is = λ i l. table-at (r .count) (profit book) i 0 l;
-      }
+      read : reading file ≡ refused (refusal .number) (refusal .place)
+      read = sym (plannable-is file) ∙ is-refused b e
 
   module _ {earned number cut : ℕ} (e : r .answer ≡ Planned earned number cut) where
-    not-told : (n p : ℕ) → reading file ≡ refused n p → ⊥
-    not-told n p h = let q = told n p h in let w : _≡_ {A = ℕ} 0 1 = cc in omega arith
+    -- the book that was read, and its plan
+    abbrev book : Book
+    book = is-planned b e .0
+
+    read : reading file ≡ done book
+    read = sym (plannable-is file) ∙ is-planned b e .1
+
+    ours : PlanOf book r
+    ours = b .plan book (is-planned b e .1)
 
     pub page-printable : Printable (r .count) (r .a) (r .b) (r .entries)
-    page-printable = go (reading file) refl
-      where
-        go : (o : Outcome Book) → reading file ≡ o → Printable (r .count) (r .a) (r .b) (r .entries)
-        go (done book) h = let p = made book h in fair-printable (p .sound) (held p) (p .planned .fair)
-        go (refused n p) h = absurd (not-told n p h)
+    page-printable = fair-printable (ours .sound) (plan-holds ours) (ours .planned .fair)
 
     pub page-planned : {before after : List ℕ} {k : ℕ} → PrintsPlan (r .shape) (r .count) earned number cut (r .a) (r .b) (r .entries) before after k → Paged file before after k
     page-planned {before} {after} {k} prints =
         record {
           fits = prints .fits;
-          inside = go (λ book p. put-inside (text book p));
-          later = go (λ book p. text book p .beyond);
-          refusal = λ n p h. absurd (not-told n p h);
-          plan = λ book h. shown book (made book h);
+          inside = put-inside text;
+          later = text .beyond;
+          refusal = λ n p h. let is = read in let z : _≡_ {A = ℕ} 0 1 = cc in absurd (omega arith);
+          plan = λ other h. let is = read in let same : book ≡ other = cc in rw same at shown;
         }
       where
-        text : (book : Book) → PlanOf book r → Put before after 0 (printedPlan book (at (r .entries)) earned number cut) k
-        text book p = prints .text book (book .limits) (table (r .count) (profit book)) (sym (p .shape-is)) (held p)
+        text : Put before after 0 (printedPlan book (at (r .entries)) earned number cut) k
+        text = prints .text book (book .limits) (table (Books.count book) (profit book)) (sym (ours .shape-is)) (plan-holds ours)
 
-        -- the file was read, so there is a book to print
-        go : {P : Type 0} → ((book : Book) → PlanOf book r → P) → P
-        go {P} of = by (reading file) refl
-          where
-            by : (o : Outcome Book) → reading file ≡ o → P
-            by (done book) h = of book (made book h)
-            by (refused n p) h = absurd (not-told n p h)
+        told : r .answer ≡ Planned (ours .earned) (ours .number) (ours .cut)
+        told = ours .says
 
-        shown : (book : Book) → PlanOf book r → PlanPage book after k
-        shown book p =
+        shown : PlanPage book after k
+        shown =
+            let first : earned ≡ ours .earned = cc (e, told) in
+            let second : number ≡ ours .number = cc (e, told) in
+            let third : cut ≡ ours .cut = cc (e, told) in
             record {
               plan = at (r .entries);
               earned = earned;
               number = number;
               cut = cut;
-              planned = record { fair = p .planned .fair; best-there = p .planned .best-there; channels = p .planned .channels; earned-is = first ∙ p .planned .earned-is; number-is = second ∙ p .planned .number-is; cut-is = third ∙ p .planned .cut-is };
-              text = put-front (text book p);
+              planned = record {
+                fair = ours .planned .fair;
+                best-there = ours .planned .best-there;
+                channels = ours .planned .channels;
+                earned-is = first ∙ ours .planned .earned-is;
+                number-is = second ∙ ours .planned .number-is;
+                cut-is = third ∙ ours .planned .cut-is;
+              };
+              text = put-front text;
             }
-          where
-            told-so : r .answer ≡ Planned (p .earned) (p .number) (p .cut)
-            told-so = p .says
-
-            first : earned ≡ p .earned
-            first = cc (e, told-so)
-
-            second : number ≡ p .number
-            second = cc (e, told-so)
-
-            third : cut ≡ p .cut
-            third = cc (e, told-so)

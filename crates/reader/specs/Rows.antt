@@ -1,7 +1,7 @@
 -- The rows that the reader's tests give are those of the table: of each record only the rows of its kind can be broken, and the tests are those
 -- rows' clauses, in the same order. Assumes nothing.
 use mathlib.Core.Path.{_≡_, refl, sym, _∙_}
-use mathlib.Core.Bool.{Bool, false, not, _&&_}
+use mathlib.Core.Bool.{Bool, true, false, not}
 use mathlib.Core.List.{List, [], _∷_}
 use mathlib.Core.Logic.{⊎-elim}
 use Prim.Native.Nat.{ℕ, _+_, _-_, _≤_, _<_}
@@ -11,7 +11,7 @@ use lib.ListN.{getD, drop}
 use lib.Dec.{ltb, eqb}
 use Rattle.sums.specs.Each.{seek, first, less-or-not}
 use Rattle.book.specs.Bytes.{blank}
-use Rattle.book.specs.Refusals.{start, present, kindIn, markIn, nodesIn, channelsIn, spansIn, aIn, profitIn, countWrong, networkWrong, nodesWrong, channelsWrong, spanWrong, markWrong, limitWrong, tooMany, requestWrong, endsWrong, profitWrong, networkDue, spanDue, requestDue, rows, fault}
+use Rattle.book.specs.Refusals.{start, present, kindIn, markIn, nodesIn, channelsIn, spansIn, aIn, profitIn, countWrong, networkWrong, nodesWrong, channelsWrong, spanWrong, markWrong, limitWrong, tooMany, requestWrong, endsWrong, profitWrong, networkDue, spanDue, requestDue, byKind, rows, fault}
 use Rattle.reader.specs.Tests.{_⇒_, lowest, joined, joined₃, joined₄, behind}
 use Rattle.reader.specs.Judged.{wrongCount, requestTests}
 use Rattle.reader.specs.Shapes.{known, fewest}
@@ -22,37 +22,32 @@ use Rattle.reader.specs.Records.{requestIn, networkRow, spanRow, request
 
 -- the row that record r breaks, by which kind of record is due there
 rowBy : (network span request : Bool) → List ℕ → ℕ → ℕ
-rowBy network span request f r =
-    first 12 (λ n. getD (
-    false
-    ∷ (network && countWrong f)
-    ∷ (network && networkWrong f)
-    ∷ (network && nodesWrong f)
-    ∷ (network && channelsWrong f)
-    ∷ (span && spanWrong f r)
-    ∷ (span && markWrong f r)
-    ∷ (span && limitWrong f r)
-    ∷ (request && tooMany f r)
-    ∷ (request && requestWrong f r)
-    ∷ (request && endsWrong f r)
-    ∷ (request && profitWrong f r)
-    ∷ []) n false)
+rowBy network span request f r = first 12 (λ n. getD (byKind network span request f r) n false)
 
 fault-by : (f : List ℕ) (r : ℕ) → fault f r ≡ rowBy (networkDue f r) (spanDue f r) (requestDue f r) f r
 unfolding fault rows rowBy
 fault-by f r = refl
 
-network-fault : (f : List ℕ) → fault f 0 ≡ lowest ((countWrong f ⇒ 1) ∷ (networkWrong f ⇒ 2) ∷ (nodesWrong f ⇒ 3) ∷ (channelsWrong f ⇒ 4) ∷ [])
+network-rows : (f : List ℕ) → rowBy true false false f 0 ≡ lowest ((countWrong f ⇒ 1) ∷ (networkWrong f ⇒ 2) ∷ (nodesWrong f ⇒ 3) ∷ (channelsWrong f ⇒ 4) ∷ [])
 unfolding rowBy seek lowest
-network-fault f = fault-by f 0 ∙ rw (le-ltb (spansIn f) 0 (omega arith))
+network-rows f = refl
+
+network-fault : (f : List ℕ) → fault f 0 ≡ lowest ((countWrong f ⇒ 1) ∷ (networkWrong f ⇒ 2) ∷ (nodesWrong f ⇒ 3) ∷ (channelsWrong f ⇒ 4) ∷ [])
+network-fault f = fault-by f 0 ∙ rw (le-ltb (spansIn f) 0 (omega arith)) (network-rows f)
+
+span-rows : (f : List ℕ) (r : ℕ) → rowBy false true false f r ≡ lowest ((spanWrong f r ⇒ 5) ∷ (markWrong f r ⇒ 6) ∷ (limitWrong f r ⇒ 7) ∷ [])
+unfolding rowBy seek lowest
+span-rows f r = refl
 
 span-fault : (f : List ℕ) (r : ℕ) → 0 < r → r ≤ spansIn f → fault f r ≡ lowest ((spanWrong f r ⇒ 5) ∷ (markWrong f r ⇒ 6) ∷ (limitWrong f r ⇒ 7) ∷ [])
+span-fault f r h l = fault-by f r ∙ rw (ne-eqb r 0 (λ e. omega arith), lt-ltb 0 r h, le-leb r (spansIn f) l, le-ltb (spansIn f) r l) (span-rows f r)
+
+request-rows : (f : List ℕ) (r : ℕ) → rowBy false false true f r ≡ lowest ((tooMany f r ⇒ 8) ∷ (requestWrong f r ⇒ 9) ∷ (endsWrong f r ⇒ 10) ∷ (profitWrong f r ⇒ 11) ∷ [])
 unfolding rowBy seek lowest
-span-fault f r h l = fault-by f r ∙ rw (ne-eqb r 0 (λ e. omega arith), lt-ltb 0 r h, le-leb r (spansIn f) l, le-ltb (spansIn f) r l)
+request-rows f r = refl
 
 request-fault : (f : List ℕ) (r : ℕ) → spansIn f < r → fault f r ≡ lowest ((tooMany f r ⇒ 8) ∷ (requestWrong f r ⇒ 9) ∷ (endsWrong f r ⇒ 10) ∷ (profitWrong f r ⇒ 11) ∷ [])
-unfolding rowBy seek lowest
-request-fault f r l = fault-by f r ∙ rw (ne-eqb r 0 (λ e. omega arith), lt-ltb 0 r (omega arith), lt-leb r (spansIn f) l, lt-ltb (spansIn f) r l)
+request-fault f r l = fault-by f r ∙ rw (ne-eqb r 0 (λ e. omega arith), lt-ltb 0 r (omega arith), lt-leb r (spansIn f) l, lt-ltb (spansIn f) r l) (request-rows f r)
 
 -- ---- the tests put together
 

@@ -1,4 +1,5 @@
 // The plan on a ring (document 01, "What the planner hands back"): each span is cut in turn, and the best plan of the best line that is left is handed back.
+// A cut whose line cannot earn more than the best so far is passed over.
 mod known;
 
 ghost use mathlib.Core.Path.{_≡_};
