@@ -8,15 +8,15 @@ use lib.ListN.{length, take, length-map, List·getD-map}
 use lib.Seq.{getD-take, length-take-le}
 use Rattle.book.specs.Book as Books
 use Rattle.book.specs.Book.{Book, spans, limit, endA, endB, profit}
-use Rattle.book.specs.Reading.{done, refused, reading}
+use Rattle.book.specs.Reading.{done, reading}
 use Rattle.book.specs.Sound.{Sound, sound}
 use Rattle.book.specs.Columns.{at, Holds}
 use Rattle.reader.specs.declared.Network.{Network}
 use Rattle.reader.specs.declared.Request.{Request}
-use Rattle.reader.specs.declared.Refusal.{Refusal}
 use Rattle.reader.specs.declared.Taken.{Taken}
-use Rattle.reader.specs.declared.Answer.the-variants.{Accepted, Refused}
-use Rattle.reader.specs.Says.{plain, bookFrom, outcomeOf, Reads}
+use Rattle.reader.specs.declared.Answer.the-variants.{Accepted}
+use Rattle.reader.specs.Says.{plain, bookFrom, Reads}
+use Rattle.reader.specs.Accepted.{accepted-read}
 use Rattle.columns.specs.declared.RequestColumns.{RequestColumns}
 use Rattle.columns.specs.Columned.{Columned, CanColumn, request}
 
@@ -76,14 +76,6 @@ lent-held {net} {limits} {requests} {count} lent made = record {
 pub accepted :
     {file : List ℕ} {taken : Taken} {net : Network} → Reads file taken → taken .answer ≡ Accepted net
     → LentBook net (taken .limits) (taken .requests) (taken .count) × (reading file ≡ done (bookFrom net (taken .limits) (taken .count) (taken .requests)))
-unfolding outcomeOf
-accepted {file} {taken} {net} reads e = (record { can = record { few = reads .counted; there = omega (arith, reads .counted, reads .sized) }; sound = sound file _ read }, read)
-  where
-    read : reading file ≡ done (bookFrom net (taken .limits) (taken .count) (taken .requests))
-    read = rw e at (sym (reads .says))
-
--- where the reader refuses a file, its reading is that refusal
-pub not-accepted :
-    {file : List ℕ} {taken : Taken} {refusal : Refusal} → Reads file taken → taken .answer ≡ Refused refusal → reading file ≡ refused (refusal .number) (refusal .place)
-unfolding outcomeOf
-not-accepted reads e = rw e at (sym (reads .says))
+accepted {file} {taken} {net} reads e =
+    let read = accepted-read reads e in
+    (record { can = record { few = reads .counted; there = omega (arith, reads .counted, reads .sized) }; sound = sound file _ read }, read)

@@ -4,9 +4,8 @@ use mathlib.Core.List.{List}
 use mathlib.Core.Path.{_≡_, refl, sym, ap₂, _∙_}
 use Prim.Native.Nat.{ℕ}
 use native.Mathlib.Omega.{arith}
-use Rattle.book.specs.Book.{Book}
-use Rattle.book.specs.Reading.{Outcome, done, refused}
-use Rattle.rules.specs.Operations.{plannableIn, plannable, checker}
+use Rattle.book.specs.Reading.{refused}
+use Rattle.rules.specs.Operations.{plannable, checker}
 use Rattle.reader.specs.declared.Refusal.{Refusal}
 use Rattle.reader.specs.declared.Taken.{Taken}
 use Rattle.reader.specs.Says.{outcomeOf, Reads}

@@ -15,10 +15,6 @@ use Rattle.flow.specs.Walking.{Open}
 unfoldable pub raised : ℕ → (ℕ → ℕ) → (ℕ → ℕ) → ℕ → ℕ
 raised D N d v = N v + (D - d v)
 
-pub raised-keeps : (D : ℕ) (N d : ℕ → ℕ) (v : ℕ) → N v ≤ raised D N d v
-unfolding raised
-raised-keeps D N d v = omega arith
-
 pub raised-upto : {cells D B c v : ℕ} {N : ℕ → ℕ} (d : ℕ → ℕ) → ((w : ℕ) → w ≤ cells → N w ≤ B) → D ≤ c → v ≤ cells → raised D N d v ≤ B + c
 unfolding raised
 raised-upto {v} d deepest l h = omega (arith, deepest v h)

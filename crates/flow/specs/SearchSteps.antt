@@ -216,12 +216,6 @@ module _ (g : Ground) (d : ℕ → ℕ) (u len : ℕ) where
   pub cell-idle : (v : ℕ) → len + g .N u ≡ g .N v → d v ≤ d u + len → CellHolds g d u v
   cell-idle v long near = omega arith
 
-  pub along-idle : (i : ℕ) → len + (g .N u + g .row .profit i) ≡ g .N (g .row .hi i) → d (g .row .hi i) ≤ d u + len → AlongHolds g d u i
-  along-idle i long near = omega arith
-
-  pub back-idle : (i : ℕ) → len + g .N u ≡ g .N (g .row .lo i) + g .row .profit i → d (g .row .lo i) ≤ d u + len → BackHolds g d u i
-  back-idle i long near = omega arith
-
 -- ---- how far u has got: up, down, then the candidates from the last one on
 
 -- up is done

@@ -22,7 +22,8 @@ use Rattle.reader.specs.declared.Refusal.{Refusal}
 use Rattle.reader.specs.declared.Taken.{Taken}
 use Rattle.reader.specs.declared.Answer.the-variants.{Accepted, Refused}
 use Rattle.reader.specs.Says.{Reads, bookFrom}
-use Rattle.columns.specs.Seam.{HeldBook, accepted, not-accepted}
+use Rattle.reader.specs.Accepted.{refused-read}
+use Rattle.columns.specs.Seam.{HeldBook, accepted}
 use Rattle.line.specs.declared.Solved.{Solved}
 use Rattle.line.specs.Promise.{CanPlanLine, LinePlanned}
 use Rattle.ring.specs.Promise.{CanPlanRing, RingPlanned}
@@ -164,7 +165,7 @@ pub unread :
     {file : List ℕ} {taken : Taken} {refusal : Refusal} {r : BookPlan} (entryPlaces pricePlaces : ℕ) → Reads file taken → taken .answer ≡ Refused refusal → Refusing refusal r
     → BookPlanned file entryPlaces pricePlaces r
 unfolding plannableIn andThen
-unread entryPlaces pricePlaces reads e says = refused-by (rw (not-accepted reads e)) says
+unread entryPlaces pricePlaces reads e says = refused-by (rw (refused-read reads e)) says
 
 -- a file that is read is planned as its book is
 pub read :

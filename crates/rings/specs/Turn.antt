@@ -53,9 +53,6 @@ module _ (n j : ℕ) (cut : j < n) where
   pub span-below : (t : ℕ) → t + 1 < n → spanAt n j t < n
   span-below t h = ⊎-elim (λ w. omega (arith, w .1)) (λ w. omega (arith, w .1, w .0)) (span-stands n j t .case)
 
-  pub span-not-cut : (t : ℕ) → t + 1 < n → spanAt n j t ≡ j → ⊥
-  span-not-cut t h e = ⊎-elim (λ w. omega (arith, w .1)) (λ w. omega (arith, w .1)) (span-stands n j t .case)
-
   pub place-of-span : (t : ℕ) → t + 1 < n → steps n (j + 1) (spanAt n j t) ≡ t
   place-of-span t h =
       ⊎-elim

@@ -1,16 +1,14 @@
 -- A value of type i64 that the code holds is its bits, read back: `rd z`, which is z where z fits. Here is what fits, by one bound on both
--- parts of `Parts`, and what a sum, a difference and a test of two values that were read back come to. Assumes nothing.
+-- parts of `Parts`, and what a sum and a difference of two values that were read back come to. Assumes nothing.
 use mathlib.Core.Path.{_≡_, sym, ap, ap₂, subst, _∙_}
-use mathlib.Core.Bool.{true, false}
 use Prim.Native.Nat.{ℕ, _+_, _^_, _≤_, _<_}
 use native.Mathlib.Omega.{arith}
 use lib.IntN.{ℤ, pos, negsuc, _+ℤ_, _-ℤ_}
-use lib.Signed.{mag, ltZ}
+use lib.Signed.{mag}
 use mir.Syntax.{w64}
 use mir.Val.{SFits, toZ, ofZ}
 use mir.Facts.{toZ-ofZ}
-use Rattle.signed.specs.Parts.{up, dn, sum, dif}
-use Rattle.signed.specs.Tests.{ltZ-true, ltZ-false}
+use Rattle.signed.specs.Parts.{up, dn, dif}
 
 -- z lies between −b and b: the form for bounds in contracts
 pub record Within (b : ℕ) (z : ℤ) : Type 0 where
@@ -60,20 +58,6 @@ plus x y e d f = reads (ap₂ _+ℤ_ e d) f
 pub minus : {p q : ℤ} (x y : ℤ) → p ≡ x → q ≡ y → SFits w64 (x -ℤ y) → Reads (p -ℤ q) (x -ℤ y)
 minus x y e d f = reads (ap₂ _-ℤ_ e d) f
 
--- the same for two values within b
-pub added : {b : ℕ} (x y : ℤ) → b < 2 ^ 62 → Within b x → Within b y → Reads (rd x +ℤ rd y) (x +ℤ y)
-added {b} x y l p q = plus x y (back (within x b (omega arith) p)) (back (within y b (omega arith) q)) (within (x +ℤ y) (b + b) (omega arith) (omega (arith, sum x y)))
-
+-- the same difference for two values within b
 pub taken : {b : ℕ} (x y : ℤ) → b < 2 ^ 62 → Within b x → Within b y → Reads (rd x -ℤ rd y) (x -ℤ y)
 taken {b} x y l p q = minus x y (back (within x b (omega arith) p)) (back (within y b (omega arith) q)) (within (x -ℤ y) (b + b) (omega arith) (omega (arith, dif x y)))
-
--- a signed test on two bounded values
-pub lt-yes : {b : ℕ} (x y : ℤ) → b < 2 ^ 63 → Within b x → Within b y → ltZ (rd x) (rd y) ≡ true → up x + dn y < up y + dn x
-lt-yes {b} x y l p q e = omega (arith, ltZ-true, rd-bal x (within x b l p), rd-bal y (within y b l q))
-
-pub lt-no : {b : ℕ} (x y : ℤ) → b < 2 ^ 63 → Within b x → Within b y → ltZ (rd x) (rd y) ≡ false → up y + dn x ≤ up x + dn y
-lt-no {b} x y l p q e = omega (arith, ltZ-false, rd-bal x (within x b l p), rd-bal y (within y b l q))
-
--- `==` compares bits
-pub same-bits : {x y : ℤ} → SFits w64 x → SFits w64 y → ofZ w64 x ≡ ofZ w64 y → x ≡ y
-same-bits f g e = sym (back f) ∙ ap (toZ w64) e ∙ back g

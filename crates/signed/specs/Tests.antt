@@ -1,14 +1,14 @@
--- The order of two ℤ, as the code tests it (`ltZ`, `leZ`) and as clauses state it (`_<ℤ_`, `_≤ℤ_`), in the parts of `Parts`.
+-- The order of two ℤ, as the code tests it (`ltZ`, `leZ`), in the parts of `Parts`.
 -- Each test is the test of ℕ on the parts taken crosswise, a − b before c − d as a + d before c + b; the rest follows from the tests of ℕ.
 -- Assumes nothing.
-use mathlib.Core.Path.{_≡_, refl, sym, subst, _∙_}
+use mathlib.Core.Path.{_≡_, refl, sym, _∙_}
 use mathlib.Core.Bool.{Bool, true, false}
 use Prim.Native.Nat.{ℕ, suc, _+_, _≤_, _<_}
 use native.Mathlib.Omega.{arith}
 use borrow.Author.Tests.{ltb-true, ltb-false, leb-true, leb-false, lt-ltb, le-ltb, le-leb, lt-leb}
-use lib.Dec.{T, ltb, leb, leb→le, le→leb, ltb→lt, lt→ltb}
+use lib.Dec.{ltb, leb}
 use lib.IntN.{ℤ, pos, negsuc}
-use lib.Signed.{ltZ, leZ, _≤ℤ_, _<ℤ_, leZ-yes, ltZ-yes}
+use lib.Signed.{ltZ, leZ}
 use Rattle.signed.specs.Parts.{up, dn}
 
 -- two tests of ℕ that pass together and fail together
@@ -43,29 +43,3 @@ leZ-true a b e = leb-true (up a + dn b) (up b + dn a) (sym (le-is a b) ∙ e)
 
 pub leZ-false : (a b : ℤ) → leZ a b ≡ false → up b + dn a < up a + dn b
 leZ-false a b e = leb-false (up a + dn b) (up b + dn a) (sym (le-is a b) ∙ e)
-
--- ---- from the fact to the test's outcome
-pub lt-flag : (a b : ℤ) → up a + dn b < up b + dn a → ltZ a b ≡ true
-lt-flag a b h = lt-is a b ∙ lt-ltb (up a + dn b) (up b + dn a) h
-
-pub lt-flag-no : (a b : ℤ) → up b + dn a ≤ up a + dn b → ltZ a b ≡ false
-lt-flag-no a b h = lt-is a b ∙ le-ltb (up a + dn b) (up b + dn a) h
-
-pub le-flag : (a b : ℤ) → up a + dn b ≤ up b + dn a → leZ a b ≡ true
-le-flag a b h = le-is a b ∙ le-leb (up a + dn b) (up b + dn a) h
-
-pub le-flag-no : (a b : ℤ) → up b + dn a < up a + dn b → leZ a b ≡ false
-le-flag-no a b h = le-is a b ∙ lt-leb (up a + dn b) (up b + dn a) h
-
--- ---- the orders of clauses
-pub le-parts : {a b : ℤ} → a ≤ℤ b → up a + dn b ≤ up b + dn a
-le-parts {a} {b} h = leb→le (up a + dn b) (up b + dn a) (subst T (le-is a b) (h .le))
-
-pub le-of : (a b : ℤ) → up a + dn b ≤ up b + dn a → a ≤ℤ b
-le-of a b h = leZ-yes (subst T (sym (le-is a b)) (le→leb (up a + dn b) (up b + dn a) h))
-
-pub lt-parts : {a b : ℤ} → a <ℤ b → up a + dn b < up b + dn a
-lt-parts {a} {b} h = ltb→lt (up a + dn b) (up b + dn a) (subst T (lt-is a b) (h .lt))
-
-pub lt-of : (a b : ℤ) → up a + dn b < up b + dn a → a <ℤ b
-lt-of a b h = ltZ-yes (subst T (sym (lt-is a b)) (lt→ltb (up a + dn b) (up b + dn a) h))

@@ -8,7 +8,7 @@ use Prim.Native.Nat.{ℕ, zero, suc, _+_, _^_, _/_, _%_, _≤_, _<_}
 use native.Mathlib.Nat.{pow-suc}
 use native.Mathlib.Omega.{arith}
 use borrow.Author.Tests.{lt-ltb, le-ltb}
-use mir.Syntax.{w32, w64}
+use mir.Syntax.{w64}
 use mir.Val.{Fits}
 use lib.Dec.{ltb}
 use lib.ListN.{length, length-append}
@@ -80,6 +80,3 @@ short (suc k) n h =
 -- what 64 bits hold has 20 digits at most, and what 32 bits hold 10
 pub short-64 : (n : ℕ) → Fits w64 n → length (decimal n) ≤ 20
 short-64 n h = short 19 n (omega arith)
-
-pub short-32 : (n : ℕ) → Fits w32 n → length (decimal n) ≤ 10
-short-32 n h = short 9 n (omega arith)

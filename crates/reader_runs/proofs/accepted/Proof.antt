@@ -17,11 +17,11 @@ enum-told-2 c = search needs
 
 returns : tie.Need-returns
 unfolding isDone
-returns c = sym (ap isDone (accepted-read _ _ (c .before .before .read-book .ensures) _ (c .enum-told .given .1)))
+returns c = sym (ap isDone (accepted-read (c .before .before .read-book .ensures) (c .enum-told .given .1)))
 
 returns-2 : tie.Need-returns-2
 unfolding isDone
-returns-2 c = sym (ap isDone (refused-read _ _ (c .before .before .read-book .ensures) _ (c .enum-told2 .given .1)))
+returns-2 c = sym (ap isDone (refused-read (c .before .before .read-book .ensures) (c .enum-told2 .given .1)))
 
 pub accepted-spec : {M : Type 1} → statement M
 accepted-spec = tie.close (tie.spec read-book-requires enum-told enum-told-2 returns returns-2)

@@ -17,19 +17,19 @@ enum-known-answer c = search needs
 
 returns : tie.Need-returns
 unfolding isRefused
-returns c = rw (accepted-read _ _ (c .before .before .read-book .ensures) _ (c .enum-told .given .1))
+returns c = rw (accepted-read (c .before .before .read-book .ensures) (c .enum-told .given .1))
 
 returns-2 : tie.Need-returns-2
 unfolding isRefused
 returns-2 c =
     let told = c .before .before .before .before in
-    simp (refused-read _ _ (told .before .before .read-book .ensures) _ (told .answer .given .1), eq-eqb _ _ (c .before .if1 .taken))
+    simp (refused-read (told .before .before .read-book .ensures) (told .answer .given .1), eq-eqb _ _ (c .before .if1 .taken))
 
 returns-3 : tie.Need-returns-3
 unfolding isRefused
 returns-3 c =
     let told = c .before .before .before in
-    simp (refused-read _ _ (told .before .before .read-book .ensures) _ (told .answer .given .1), ne-eqb _ _ (c .if1 .left))
+    simp (refused-read (told .before .before .read-book .ensures) (told .answer .given .1), ne-eqb _ _ (c .if1 .left))
 
 pub refused-spec : {M : Type 1} → statement M
 refused-spec =

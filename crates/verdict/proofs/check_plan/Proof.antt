@@ -1,7 +1,8 @@
 -- `verdict::check_plan` meets its contract: the reader's refusal is the checker's, and an accepted book is checked with its requests lent. Assumes
 -- nothing.
 use borrow.Author.Needs.{needs}
-use Rattle.columns.specs.Seam.{accepted, not-accepted}
+use Rattle.reader.specs.Accepted.{refused-read}
+use Rattle.columns.specs.Seam.{accepted}
 use Rattle.verdict.specs.Checked.{checkedOf}
 use Rattle.verdict.specs.WaysOut.{book-refused, book-accepted}
 use Rattle.verdict.proofs.check_plan.Statement.{statement}
@@ -9,7 +10,7 @@ use Rattle.verdict.proofs.check_plan.Tie as tie
 
 returns : tie.Need-returns
 unfolding checkedOf
-returns c = book-refused _ _ _ (not-accepted (c .before .before .before .read-book .ensures) (c .before .answer2 .given .1))
+returns c = book-refused _ _ _ (refused-read (c .before .before .before .read-book .ensures) (c .before .answer2 .given .1))
 
 check-accepted-requires : tie.Need-check-accepted-requires
 check-accepted-requires c κs =
