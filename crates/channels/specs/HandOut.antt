@@ -1,11 +1,9 @@
 -- What the functions of this crate promise. Assumes nothing.
-use mathlib.Core.Bool.{Bool, false, not, _&&_}
+use mathlib.Core.Bool.{Bool, false}
 use mathlib.Core.List.{List}
 use mathlib.Core.Path.{_≡_}
 use Prim.Native.Nat.{ℕ, _≤_, _<_}
 use lib.ListN.{getD}
-use lib.Dec.{ltb, eqb}
-use Rattle.sums.specs.Each.{some}
 use Rattle.row.specs.Row.{Row, load}
 use Rattle.row.specs.Channels.{Ruled}
 use Rattle.channels.specs.declared.Given.{Given}
@@ -30,15 +28,6 @@ pub record CanHandOut (cells count k : ℕ) (lo hi : List ℕ) (kept : List Bool
   pub some-cell : (i : ℕ) → i < count → at lo i < at hi i
   pub in-row : (i : ℕ) → i < count → at hi i ≤ cells
   pub fits : (j : ℕ) → j < cells → load (rowOf cells count lo hi) (flag kept) j ≤ k
-
--- the channels held so far are numbers below 128
-pub record Small (count : ℕ) (channel : List ℕ) : Type 0 where
-  pub count-upto : count ≤ 256
-  pub below : (j : ℕ) → j < count → at channel j < 128
-
--- channel c is held by one of the first `count` that reaches past node `from`; channel 0 is none
-unfoldable pub heldOver : ℕ → List ℕ → List ℕ → ℕ → ℕ → Bool
-heldOver count hi channel from c = some count (λ j. not (eqb (at channel j) 0) && (ltb from (at hi j) && eqb (at channel j) c))
 
 -- every kept one has the channel of the rule, one of 1 to k, and the others have 0; refusal 15 is never the answer, by `found` of the crate row
 pub record HandedOut (cells count k : ℕ) (lo hi : List ℕ) (kept : List Bool) (given : Given) (channel : List ℕ) : Type 0 where

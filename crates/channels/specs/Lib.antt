@@ -1,4 +1,4 @@
 pub mod HandOut
-pub mod Marks
+pub mod Latest
 pub mod Stages
 pub mod Turns

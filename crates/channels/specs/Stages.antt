@@ -6,12 +6,13 @@ use mathlib.Core.Logic.{⊎-elim}
 use mathlib.Core.Path.{_≡_, refl, sym, _∙_}
 use Prim.Native.Nat.{ℕ, _+_, _*_, _≤_, _<_}
 use native.Mathlib.Omega.{arith}
-use lib.ListN.{length}
+use lib.ListN.{replicate, length}
 use Rattle.sums.specs.Each.{of-yes, less-or-not}
 use Rattle.sums.specs.Lowest.{lowestFree}
 use Rattle.row.specs.Row.{heldBefore}
 use Rattle.row.specs.Channels.{Ruled, rule-ext, at-most-load, ruled-exists}
-use Rattle.channels.specs.HandOut.{at, flag, rowOf, CanHandOut, Small, HandedOut}
+use Rattle.channels.specs.HandOut.{at, flag, rowOf, CanHandOut, HandedOut}
+use Rattle.channels.specs.Latest.{Latest, latest-start}
 use Rattle.channels.specs.declared.Given.{Given}
 use Rattle.channels.specs.declared.Given.the-variants.{All}
 
@@ -23,17 +24,18 @@ place v i = v * 256 + i
 abbrev pub rule : ℕ → ℕ → ℕ → List ℕ → List ℕ → List Bool → ℕ → ℕ
 rule cells count k lo hi kept = ruled-exists (rowOf cells count lo hi) k (flag kept) .0
 
--- it is the turn of number i at node v
-pub record Stage (cells count k : ℕ) (lo hi : List ℕ) (kept : List Bool) (channel : List ℕ) (v i : ℕ) : Type 0 where
+-- it is the turn of number i at node v; `ends` is all that is remembered of the channels given
+pub record Stage (cells count k : ℕ) (lo hi : List ℕ) (kept : List Bool) (channel ends : List ℕ) (v i : ℕ) : Type 0 where
   pub can : CanHandOut cells count k lo hi kept
   pub long : length channel ≡ 256
   pub given : (j : ℕ) → j < count → flag kept j ≡ true → place (at lo j) j < place v i → at channel j ≡ rule cells count k lo hi kept j
   pub only : (j : ℕ) → j < count → 0 < at channel j → (flag kept j ≡ true) × (place (at lo j) j < place v i)
+  pub latest : Latest count hi channel ends
 
 -- what giving the channels of node v comes to; the number of cells plays no part in it, so it is said for each
-pub record Turned (v count k : ℕ) (lo hi : List ℕ) (kept : List Bool) (old : List ℕ) (given : Given) (new : List ℕ) : Type 0 where
+pub record Turned (v count k : ℕ) (lo hi : List ℕ) (kept : List Bool) (channel ends : List ℕ) (given : Given) (channel′ ends′ : List ℕ) : Type 0 where
   pub all : given ≡ All
-  pub next : (cells : ℕ) → Stage cells count k lo hi kept old v 0 → Stage cells count k lo hi kept new (v + 1) 0
+  pub next : (cells : ℕ) → Stage cells count k lo hi kept channel ends v 0 → Stage cells count k lo hi kept channel′ ends′ (v + 1) 0
 
 -- ---- what the rule gives
 
@@ -49,7 +51,7 @@ module _ {cells count k : ℕ} {lo hi : List ℕ} {kept : List Bool} (can : CanH
 
 -- ---- from one stage to the next
 
-module _ {cells count k : ℕ} {lo hi : List ℕ} {kept : List Bool} {channel : List ℕ} {v i : ℕ} (s : Stage cells count k lo hi kept channel v i) where
+module _ {cells count k : ℕ} {lo hi : List ℕ} {kept : List Bool} {channel ends : List ℕ} {v i : ℕ} (s : Stage cells count k lo hi kept channel ends v i) where
   -- a channel is 0 or the rule's
   channel-upto : (j : ℕ) → j < count → at channel j ≤ k
   channel-upto j l = ⊎-elim real (λ h. omega arith) (less-or-not 0 (at channel j))
@@ -57,12 +59,9 @@ module _ {cells count k : ℕ} {lo hi : List ℕ} {kept : List Bool} {channel : 
       real : 0 < at channel j → at channel j ≤ k
       real h = let first = s .only j l h in rw (s .given j l (first .0) (first .1)) (rule-upto (s .can) j l (first .0))
 
-  pub stage-small : Small count channel
-  stage-small = record { count-upto = s .can .count-upto; below = λ j l. omega (arith, channel-upto j l, s .can .k-upto) }
-
   -- number i is passed over: it is not kept, or begins at another node
-  pub stage-pass : (flag kept i ≡ true → at lo i ≡ v → ⊥) → i < count → Stage cells count k lo hi kept channel v (i + 1)
-  stage-pass elsewhere l = record { can = s .can; long = s .long; given = given; only = λ j lj h. let first = s .only j lj h in (first .0, omega (arith, first .1)) }
+  pub stage-pass : (flag kept i ≡ true → at lo i ≡ v → ⊥) → i < count → Stage cells count k lo hi kept channel ends v (i + 1)
+  stage-pass elsewhere l = record { can = s .can; long = s .long; given = given; only = λ j lj h. let first = s .only j lj h in (first .0, omega (arith, first .1)); latest = s .latest }
     where
       given : (j : ℕ) → j < count → flag kept j ≡ true → place (at lo j) j < place v (i + 1) → at channel j ≡ rule cells count k lo hi kept j
       given j lj ej p = ⊎-elim (s .given j lj ej) (λ h. absurd (now h)) (less-or-not (place (at lo j) j) (place v i))
@@ -74,20 +73,21 @@ module _ {cells count k : ℕ} {lo hi : List ℕ} {kept : List Bool} {channel : 
               elsewhere (rw same at ej) (rw same at begins)
 
 module _ {cells count k : ℕ} {lo hi : List ℕ} {kept : List Bool} {channel : List ℕ} where
-  pub stage-start : CanHandOut cells count k lo hi kept → length channel ≡ 256 → ((j : ℕ) → j < count → at channel j ≡ 0) → Stage cells count k lo hi kept channel 0 0
-  stage-start can long none = record { can = can; long = long; given = λ j l e p. absurd (omega arith); only = λ j l h. absurd (omega (arith, none j l)) }
+  pub stage-start : CanHandOut cells count k lo hi kept → length channel ≡ 256 → ((j : ℕ) → j < count → at channel j ≡ 0) → Stage cells count k lo hi kept channel (replicate 128 0) 0 0
+  stage-start can long none = record { can = can; long = long; given = λ j l e p. absurd (omega arith); only = λ j l h. absurd (omega (arith, none j l)); latest = latest-start none }
 
   -- every number had its turn at node v
-  pub stage-next : {v : ℕ} → Stage cells count k lo hi kept channel v count → Stage cells count k lo hi kept channel (v + 1) 0
+  pub stage-next : {ends : List ℕ} {v : ℕ} → Stage cells count k lo hi kept channel ends v count → Stage cells count k lo hi kept channel ends (v + 1) 0
   stage-next s = record {
     can = s .can;
     long = s .long;
     given = λ j l e p. s .given j l e (omega (arith, s .can .count-upto));
     only = λ j l h. let first = s .only j l h in (first .0, omega (arith, first .1, s .can .count-upto));
+    latest = s .latest;
   }
 
   -- every kept one begins before the last node
-  pub stage-end : Stage cells count k lo hi kept channel cells 0 → HandedOut cells count k lo hi kept All channel
+  pub stage-end : {ends : List ℕ} → Stage cells count k lo hi kept channel ends cells 0 → HandedOut cells count k lo hi kept All channel
   stage-end s = record { all = refl; ruled = record { is = is }; upto = channel-upto s; none = none }
     where
       every : (j : ℕ) → j < count → flag kept j ≡ true → at channel j ≡ rule cells count k lo hi kept j

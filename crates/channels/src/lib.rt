@@ -1,11 +1,11 @@
 // Channels for a kept set on a row, by the rule of document 01 ("What the planner hands back"): by first cell, then by number, each takes the lowest
 // channel that no earlier one that shares a cell holds.
 ghost use mathlib.Core.Path.{_≡_};
-ghost use mathlib.Core.Bool.{false};
 ghost use Prim.Native.Nat.{ℕ, _≤_, _<_};
 ghost use lib.ListN.{getD, length};
 ghost use Rattle.sums.specs.Lowest.{lowestFree};
-ghost use Rattle.channels.specs.HandOut.{CanHandOut, HandedOut, Small, heldOver};
+ghost use Rattle.channels.specs.HandOut.{CanHandOut, HandedOut};
+ghost use Rattle.channels.specs.Latest.{heldPast};
 ghost use Rattle.channels.specs.Stages.{Stage, Turned};
 
 // Whether every kept one has a channel, or the one that finds none of 1 to k left (refusal 15).
@@ -14,39 +14,14 @@ pub enum Given {
     NoneLeft(usize),
 }
 
-// Marks, of the channels 1 to 127, those that one of the first `count` holds which reaches past node `from`.
-fn mark_held(
-    count: usize,
-    hi: &[usize; 256],
-    channel: &[usize; 256],
-    from: usize,
-    held: &mut [bool; 128],
-)
-    requires { ⌜ Small count (now channel) ⌝ }
-    requires { ⌜ length (now held) ≡ 128 ⌝ }
-    requires { ⌜ ((c : ℕ) → getD (now held) c false ≡ false) ⌝ }
-    ensures { λ r. ⌜ ((c : ℕ) → 1 ≤ c → getD (now (held .exit)) c false ≡ heldOver count (now (hi .entry)) (now (channel .entry)) from c) ⌝ }
-{
-    let mut j = 0;
-    while j < count {
-        let c = channel[j];
-        if c != 0 {
-            if from < hi[j] {
-                held[c] = true;
-            }
-        }
-        j += 1;
-    }
-}
-
-// The lowest of the channels 1 to k that is not marked, or k + 1.
-fn lowest_in(k: usize, held: &[bool; 128]) -> usize
+// The lowest of the channels 1 to k whose latest connection ends no later than node `from`, or k + 1.
+fn lowest_past(k: usize, ends: &[usize; 128], from: usize) -> usize
     requires { ⌜ k ≤ 96 ⌝ }
-    ensures { λ r. ⌜ r ≡ lowestFree k (λ c. getD (now (held .entry)) c false) ⌝ }
+    ensures { λ r. ⌜ r ≡ lowestFree k (heldPast (now (ends .entry)) from) ⌝ }
 {
     let mut c = 1;
     while c <= k {
-        if !held[c] {
+        if ends[c] <= from {
             return c;
         }
         c += 1;
@@ -54,24 +29,8 @@ fn lowest_in(k: usize, held: &[bool; 128]) -> usize
     c
 }
 
-// The lowest of the channels 1 to k that none of the first `count` holds which reaches past node `from`, or k + 1.
-fn lowest_past(
-    count: usize,
-    k: usize,
-    hi: &[usize; 256],
-    channel: &[usize; 256],
-    from: usize,
-) -> usize
-    requires { ⌜ Small count (now channel) ⌝ }
-    requires { ⌜ k ≤ 96 ⌝ }
-    ensures { λ r. ⌜ r ≡ lowestFree k (heldOver count (now (hi .entry)) (now (channel .entry)) from) ⌝ }
-{
-    let mut held = [false; 128];
-    mark_held(count, hi, channel, from, &mut held);
-    lowest_in(k, &held)
-}
-
 // Gives those kept ones that begin at node v their channels, by number: it is the turn of node v, on a row of some number of cells, and then of v + 1.
+// Of each channel it remembers where the latest connection ends, and no more.
 fn give_from(
     v: usize,
     count: usize,
@@ -80,19 +39,21 @@ fn give_from(
     hi: &[usize; 256],
     kept: &[bool; 256],
     channel: &mut [usize; 256],
+    ends: &mut [usize; 128],
 ) -> Given
-    requires { ⌜ ((cells : ℕ) × Stage cells count k (now lo) (now hi) (now kept) (now channel) v 0) ⌝ }
-    ensures { λ r. ⌜ Turned v count k (now (lo .entry)) (now (hi .entry)) (now (kept .entry)) (now (channel .entry)) r (now (channel .exit)) ⌝ }
+    requires { ⌜ ((cells : ℕ) × Stage cells count k (now lo) (now hi) (now kept) (now channel) (now ends) v 0) ⌝ }
+    ensures { λ r. ⌜ Turned v count k (now (lo .entry)) (now (hi .entry)) (now (kept .entry)) (now (channel .entry)) (now (ends .entry)) r (now (channel .exit)) (now (ends .exit)) ⌝ }
 {
     let mut i = 0;
     while i < count {
         if kept[i] {
             if lo[i] == v {
-                let c = lowest_past(count, k, hi, channel, v);
+                let c = lowest_past(k, ends, v);
                 if k < c {
                     return Given::NoneLeft(i);
                 }
                 channel[i] = c;
+                ends[c] = hi[i];
             }
         }
         i += 1;
@@ -126,9 +87,10 @@ pub fn hand_out(
     ensures { λ r. ⌜ HandedOut cells count k (now (lo .entry)) (now (hi .entry)) (now (kept .entry)) r (now (channel .exit)) ⌝ }
 {
     clear(count, channel);
+    let mut ends = [0; 128];
     let mut v = 0;
     while v < cells {
-        let given = give_from(v, count, k, lo, hi, kept, channel);
+        let given = give_from(v, count, k, lo, hi, kept, channel, &mut ends);
         let Given::All = given else {
             return given;
         };

@@ -5,17 +5,17 @@ use mathlib.Core.Path.{_≡_, refl, sym, _∙_}
 use Prim.Native.Nat.{ℕ, _-_, _≤_}
 use native.Mathlib.Omega.{arith}
 use Rattle.sums.specs.Each.{of-yes}
-use Rattle.channels.specs.Stages.{Stage, stage-small, stage-pass, stage-next}
+use Rattle.channels.specs.Stages.{Stage, stage-pass, stage-next}
 use Rattle.channels.specs.Turns.{turn-enough, turn-gives}
 use Rattle.channels.proofs.give_from.Statement.{statement}
 use Rattle.channels.proofs.give_from.Tie as tie
 
 abbrev Inv-loop : tie.InvT-loop
-Inv-loop v count k lo hi kept channel₀ i₀ channel i =
-    (i ≤ count) × ((cells : ℕ) → Stage cells count k lo hi kept channel₀ v 0 → Stage cells count k lo hi kept channel v i)
+Inv-loop v count k lo hi kept channel₀ ends₀ i₀ channel ends i =
+    (i ≤ count) × ((cells : ℕ) → Stage cells count k lo hi kept channel₀ ends₀ v 0 → Stage cells count k lo hi kept channel ends v i)
 
 abbrev μ-loop : tie.MeasureT-loop
-μ-loop v count k lo hi kept channel₀ i₀ channel i = count - i
+μ-loop v count k lo hi kept channel₀ ends₀ i₀ channel ends i = count - i
 
 loop-holds : tie.Need-loop-holds Inv-loop μ-loop
 loop-holds c = (omega arith, λ cells s. s)
@@ -24,7 +24,7 @@ lowest-past-requires : tie.Need-lowest-past-requires Inv-loop μ-loop
 lowest-past-requires c κs =
     let here = c .before .before .before .before .before .before in
     let stage = here .loop .inv .1 (here .before .pre .0) (here .before .pre .1) in
-    (stage-small stage, stage .can .k-upto)
+    stage .can .k-upto
 
 -- one of 1 to k is always left, so this way is not taken
 returns : tie.Need-returns Inv-loop μ-loop
@@ -39,9 +39,9 @@ loop-again c = (
   omega arith,
   λ cells s.
       let stage = c .before .before .before .loop .inv .1 cells s in
-      ⊎-elim (λ w. rw (w .6, w .4 .ensures) (turn-gives stage (omega arith) (w .0 .taken) (w .2 .taken)))
-      (⊎-elim (λ w. rw (w .3) (stage-pass stage (λ e. w .2 .left) (omega arith)))
-      (λ w. rw (w .1) (stage-pass stage (λ e. absurd (of-yes (sym (w .0 .left) ∙ e))) (omega arith))))
+      ⊎-elim (λ w. rw (w .7, w .8, w .4 .ensures) (turn-gives stage (omega arith) (w .0 .taken) (w .2 .taken)))
+      (⊎-elim (λ w. rw (w .3, w .4) (stage-pass stage (λ e. w .2 .left) (omega arith)))
+      (λ w. rw (w .1, w .2) (stage-pass stage (λ e. absurd (of-yes (sym (w .0 .left) ∙ e))) (omega arith))))
       (c .if1 .came),
 )
 
@@ -62,6 +62,10 @@ give-from-spec =
     (λ c. omega arith)
     lowest-past-requires
     returns
+    (λ c. omega arith)
+    (λ c. omega arith)
+    (λ c. omega arith)
+    (λ c. omega arith)
     (λ c. omega arith)
     (λ c. omega arith)
     (λ c. omega arith)

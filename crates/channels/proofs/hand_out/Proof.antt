@@ -8,10 +8,10 @@ use Rattle.channels.proofs.hand_out.Statement.{statement}
 use Rattle.channels.proofs.hand_out.Tie as tie
 
 abbrev Inv-loop : tie.InvT-loop
-Inv-loop cells count k lo hi kept channel₀ v₀ channel v = (v ≤ cells) × Stage cells count k lo hi kept channel v 0
+Inv-loop cells count k lo hi kept channel₀ ends₀ v₀ channel ends v = (v ≤ cells) × Stage cells count k lo hi kept channel ends v 0
 
 abbrev μ-loop : tie.MeasureT-loop
-μ-loop cells count k lo hi kept channel₀ v₀ channel v = cells - v
+μ-loop cells count k lo hi kept channel₀ ends₀ v₀ channel ends v = cells - v
 
 -- an array that is lent as a slice has the length of its type
 clear-requires : tie.Need-clear-requires Inv-loop μ-loop
@@ -21,7 +21,7 @@ loop-holds : tie.Need-loop-holds Inv-loop μ-loop
 loop-holds c = (omega arith, stage-start (c .before .before .pre) (c .clear .kept .1 .0 ∙ c .before .clear-arg .given .0 .1) (c .clear .ensures))
 
 give-from-requires : tie.Need-give-from-requires Inv-loop μ-loop
-give-from-requires c κs = (c .before .before .before .before .before .args .cells, c .before .before .loop .inv .1)
+give-from-requires c κs = (c .before .before .before .before .before .before .args .cells, c .before .before .before .loop .inv .1)
 
 enum-told : tie.Need-enum-told Inv-loop μ-loop
 enum-told c = c .match .keys1
@@ -36,7 +36,7 @@ returns c =
     absurd (omega arith)
 
 loop-again : tie.Need-loop-again Inv-loop μ-loop
-loop-again c = (omega arith, c .before .before .give-from .ensures .next _ (c .before .before .before .before .before .loop .inv .1))
+loop-again c = (omega arith, c .before .before .give-from .ensures .next _ (c .before .before .before .before .before .before .loop .inv .1))
 
 returns-2 : tie.Need-returns-2 Inv-loop μ-loop
 returns-2 c =
