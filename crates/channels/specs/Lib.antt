@@ -1,4 +1,5 @@
 pub mod HandOut
 pub mod Latest
+pub mod Lists
 pub mod Stages
 pub mod Turns

@@ -13,6 +13,7 @@ use Rattle.row.specs.Row.{heldBefore}
 use Rattle.row.specs.Channels.{Ruled, rule-ext, at-most-load, ruled-exists}
 use Rattle.channels.specs.HandOut.{at, flag, rowOf, CanHandOut, HandedOut}
 use Rattle.channels.specs.Latest.{Latest, latest-start}
+use Rattle.channels.specs.Lists.{Leads}
 use Rattle.channels.specs.declared.Given.{Given}
 use Rattle.channels.specs.declared.Given.the-variants.{All}
 
@@ -59,30 +60,35 @@ module _ {cells count k : ℕ} {lo hi : List ℕ} {kept : List Bool} {channel en
       real : 0 < at channel j → at channel j ≤ k
       real h = let first = s .only j l h in rw (s .given j l (first .0) (first .1)) (rule-upto (s .can) j l (first .0))
 
-  -- number i is passed over: it is not kept, or begins at another node
-  pub stage-pass : (flag kept i ≡ true → at lo i ≡ v → ⊥) → i < count → Stage cells count k lo hi kept channel ends v (i + 1)
-  stage-pass elsewhere l = record { can = s .can; long = s .long; given = given; only = λ j lj h. let first = s .only j lj h in (first .0, omega (arith, first .1)); latest = s .latest }
+  -- the numbers from i to p are passed over: none of them is kept and begins at v
+  pub stage-pass : {p : ℕ} → Leads count i v lo kept p → Stage cells count k lo hi kept channel ends v p
+  stage-pass {p} m = record {
+    can = s .can;
+    long = s .long;
+    given = given;
+    only = λ j lj h. let first = s .only j lj h in (first .0, omega (arith, first .1, m .on));
+    latest = s .latest;
+  }
     where
-      given : (j : ℕ) → j < count → flag kept j ≡ true → place (at lo j) j < place v (i + 1) → at channel j ≡ rule cells count k lo hi kept j
-      given j lj ej p = ⊎-elim (s .given j lj ej) (λ h. absurd (now h)) (less-or-not (place (at lo j) j) (place v i))
+      given : (j : ℕ) → j < count → flag kept j ≡ true → place (at lo j) j < place v p → at channel j ≡ rule cells count k lo hi kept j
+      given j lj ej h = ⊎-elim (s .given j lj ej) (λ g. absurd (now g)) (less-or-not (place (at lo j) j) (place v i))
         where
           now : place v i ≤ place (at lo j) j → ⊥
-          now h =
-              let same : j ≡ i = omega (arith, s .can .count-upto) in
-              let begins : at lo j ≡ v = omega (arith, s .can .count-upto) in
-              elsewhere (rw same at ej) (rw same at begins)
+          now g =
+              let begins : at lo j ≡ v = omega (arith, s .can .count-upto, m .upto) in
+              m .passed j (omega arith) (omega arith) lj ej begins
 
 module _ {cells count k : ℕ} {lo hi : List ℕ} {kept : List Bool} {channel : List ℕ} where
   pub stage-start : CanHandOut cells count k lo hi kept → length channel ≡ 256 → ((j : ℕ) → j < count → at channel j ≡ 0) → Stage cells count k lo hi kept channel (replicate 128 0) 0 0
   stage-start can long none = record { can = can; long = long; given = λ j l e p. absurd (omega arith); only = λ j l h. absurd (omega (arith, none j l)); latest = latest-start none }
 
-  -- every number had its turn at node v
-  pub stage-next : {ends : List ℕ} {v : ℕ} → Stage cells count k lo hi kept channel ends v count → Stage cells count k lo hi kept channel ends (v + 1) 0
-  stage-next s = record {
+  -- every number had its turn at node v, whose places end where the next one's begin
+  pub stage-next : {ends : List ℕ} {v i : ℕ} → count ≤ i → i ≤ 256 → Stage cells count k lo hi kept channel ends v i → Stage cells count k lo hi kept channel ends (v + 1) 0
+  stage-next past upto s = record {
     can = s .can;
     long = s .long;
     given = λ j l e p. s .given j l e (omega (arith, s .can .count-upto));
-    only = λ j l h. let first = s .only j l h in (first .0, omega (arith, first .1, s .can .count-upto));
+    only = λ j l h. let first = s .only j l h in (first .0, omega (arith, first .1));
     latest = s .latest;
   }
 

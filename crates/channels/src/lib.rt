@@ -6,6 +6,7 @@ ghost use lib.ListN.{getD, length};
 ghost use Rattle.sums.specs.Lowest.{lowestFree};
 ghost use Rattle.channels.specs.HandOut.{CanHandOut, HandedOut};
 ghost use Rattle.channels.specs.Latest.{heldPast};
+ghost use Rattle.channels.specs.Lists.{CanList, Listed};
 ghost use Rattle.channels.specs.Stages.{Stage, Turned};
 
 // Whether every kept one has a channel, or the one that finds none of 1 to k left (refusal 15).
@@ -29,8 +30,33 @@ fn lowest_past(k: usize, ends: &[usize; 128], from: usize) -> usize
     c
 }
 
+// Lists the kept ones by first node, in rising number: `first` leads to a node's first one, `after` from each to the next; `count` and more is none.
+fn begin_lists(
+    count: usize,
+    lo: &[usize; 256],
+    kept: &[bool; 256],
+    first: &mut [usize; 128],
+    after: &mut [usize; 256],
+)
+    requires { ⌜ CanList count (now lo) ⌝ }
+    requires { ⌜ Listed count count (now lo) (now kept) (now first) (now after) ⌝ }
+    ensures { λ r. ⌜ Listed count 0 (now (lo .entry)) (now (kept .entry)) (now (first .exit)) (now (after .exit)) ⌝ }
+{
+    // from the highest number down, so that each comes in front of the higher ones
+    let mut i = count;
+    while 0 < i {
+        let e = i - 1;
+        if kept[e] {
+            let v = lo[e];
+            after[e] = first[v];
+            first[v] = e;
+        }
+        i -= 1;
+    }
+}
+
 // Gives those kept ones that begin at node v their channels, by number: it is the turn of node v, on a row of some number of cells, and then of v + 1.
-// Of each channel it remembers where the latest connection ends, and no more.
+// Of each channel it remembers where the latest connection ends, and no more. `lo` and `kept` are lent for the promise only: the lists hold what they say.
 fn give_from(
     v: usize,
     count: usize,
@@ -38,25 +64,25 @@ fn give_from(
     lo: &[usize; 256],
     hi: &[usize; 256],
     kept: &[bool; 256],
+    first: &[usize; 128],
+    after: &[usize; 256],
     channel: &mut [usize; 256],
     ends: &mut [usize; 128],
 ) -> Given
+    requires { ⌜ v < 128 ⌝ }
+    requires { ⌜ Listed count 0 (now lo) (now kept) (now first) (now after) ⌝ }
     requires { ⌜ ((cells : ℕ) × Stage cells count k (now lo) (now hi) (now kept) (now channel) (now ends) v 0) ⌝ }
     ensures { λ r. ⌜ Turned v count k (now (lo .entry)) (now (hi .entry)) (now (kept .entry)) (now (channel .entry)) (now (ends .entry)) r (now (channel .exit)) (now (ends .exit)) ⌝ }
 {
-    let mut i = 0;
+    let mut i = first[v];
     while i < count {
-        if kept[i] {
-            if lo[i] == v {
-                let c = lowest_past(k, ends, v);
-                if k < c {
-                    return Given::NoneLeft(i);
-                }
-                channel[i] = c;
-                ends[c] = hi[i];
-            }
+        let c = lowest_past(k, ends, v);
+        if k < c {
+            return Given::NoneLeft(i);
         }
-        i += 1;
+        channel[i] = c;
+        ends[c] = hi[i];
+        i = after[i];
     }
     Given::All
 }
@@ -87,10 +113,25 @@ pub fn hand_out(
     ensures { λ r. ⌜ HandedOut cells count k (now (lo .entry)) (now (hi .entry)) (now (kept .entry)) r (now (channel .exit)) ⌝ }
 {
     clear(count, channel);
+    // 256 leads to none: every number is below it
+    let mut first = [256; 128];
+    let mut after = [0; 256];
+    begin_lists(count, lo, kept, &mut first, &mut after);
     let mut ends = [0; 128];
     let mut v = 0;
     while v < cells {
-        let given = give_from(v, count, k, lo, hi, kept, channel, &mut ends);
+        let given = give_from(
+            v,
+            count,
+            k,
+            lo,
+            hi,
+            kept,
+            &first,
+            &after,
+            channel,
+            &mut ends,
+        );
         let Given::All = given else {
             return given;
         };

@@ -1,54 +1,63 @@
--- `channels::give_from` meets its contract. It is the turn of number i at node v (`Stage` of specs/Stages): one that is not kept or begins elsewhere is
--- passed over, any other gets the lowest free channel, of which one is always left. Each turn leaves one number fewer. Assumes nothing.
-use mathlib.Core.Logic.{⊎-elim}
-use mathlib.Core.Path.{_≡_, refl, sym, _∙_}
-use Prim.Native.Nat.{ℕ, _-_, _≤_}
+-- `channels::give_from` meets its contract. It is the turn of number i at node v (`Stage` of specs/Stages), the next in the node's list: it gets the lowest
+-- free channel, of which one is always left, and those up to the next one are passed over. Numbers rise along the list. Assumes nothing.
+use mathlib.Core.Bool.{true}
+use mathlib.Core.Path.{_≡_, refl}
+use Prim.Native.Nat.{ℕ, _+_, _-_, _≤_, _<_}
 use native.Mathlib.Omega.{arith}
-use Rattle.sums.specs.Each.{of-yes}
+use Rattle.channels.specs.HandOut.{at, flag}
+use Rattle.channels.specs.Lists.{Leads}
 use Rattle.channels.specs.Stages.{Stage, stage-pass, stage-next}
 use Rattle.channels.specs.Turns.{turn-enough, turn-gives}
 use Rattle.channels.proofs.give_from.Statement.{statement}
 use Rattle.channels.proofs.give_from.Tie as tie
 
 abbrev Inv-loop : tie.InvT-loop
-Inv-loop v count k lo hi kept channel₀ ends₀ i₀ channel ends i =
-    (i ≤ count) × ((cells : ℕ) → Stage cells count k lo hi kept channel₀ ends₀ v 0 → Stage cells count k lo hi kept channel ends v i)
+Inv-loop v count k lo hi kept first after channel₀ ends₀ i₀ channel ends i =
+    (i ≤ 256) × (i < count → (flag kept i ≡ true) × (at lo i ≡ v))
+    × ((cells : ℕ) → Stage cells count k lo hi kept channel₀ ends₀ v 0 → Stage cells count k lo hi kept channel ends v i)
 
 abbrev μ-loop : tie.MeasureT-loop
-μ-loop v count k lo hi kept channel₀ ends₀ i₀ channel ends i = count - i
+μ-loop v count k lo hi kept first after channel₀ ends₀ i₀ channel ends i = count - i
 
 loop-holds : tie.Need-loop-holds Inv-loop μ-loop
-loop-holds c = (omega arith, λ cells s. s)
+loop-holds c =
+    let first = c .before .pre .1 .0 .begins (c .before .args .v) (c .before .pre .0) in
+    (first .upto, first .here, λ cells s. stage-pass s first)
 
 lowest-past-requires : tie.Need-lowest-past-requires Inv-loop μ-loop
-lowest-past-requires c κs =
-    let here = c .before .before .before .before .before .before in
-    let stage = here .loop .inv .1 (here .before .pre .0) (here .before .pre .1) in
-    stage .can .k-upto
+lowest-past-requires c κs = c .before .before .before .before .pre .1 .1 .1 .can .k-upto
 
 -- one of 1 to k is always left, so this way is not taken
 returns : tie.Need-returns Inv-loop μ-loop
 returns c =
-    let here = c .before .before .before .before .before .before .before .before in
-    let stage = here .loop .inv .1 (here .before .pre .0) (here .before .pre .1) in
-    let enough = turn-enough stage (omega arith) (c .before .before .before .before .before .if1 .taken) (c .before .before .before .if2 .taken) in
+    let here = c .before .before .before .before in
+    let pre = here .before .before .pre in
+    let stage = here .loop .inv .2 (pre .1 .1 .0) (pre .1 .1 .1) in
+    let own = here .loop .inv .1 (omega arith) in
+    let enough = turn-enough stage (omega arith) (own .0) (own .1) in
     absurd (omega (arith, c .before .lowest-past .ensures))
 
+-- the list goes on with the next one of node v
+next : (c : tie.After-i2 Inv-loop μ-loop) →
+    let here = c .before .before .before .before .before .before in
+    let args = here .before .before .args in
+    Leads (args .count) (here .loop .i + 1) (args .v) (args .lo .now) (args .kept .now) (at (args .after .now) (here .loop .i))
+next c =
+    let here = c .before .before .before .before .before .before in
+    let own = here .loop .inv .1 (omega arith) in
+    rw (own .1) at (here .before .before .pre .1 .0 .next (here .loop .i) (omega arith) (omega arith) (own .0))
+
 loop-again : tie.Need-loop-again Inv-loop μ-loop
-loop-again c = (
-  omega arith,
-  λ cells s.
-      let stage = c .before .before .before .loop .inv .1 cells s in
-      ⊎-elim (λ w. rw (w .7, w .8, w .4 .ensures) (turn-gives stage (omega arith) (w .0 .taken) (w .2 .taken)))
-      (⊎-elim (λ w. rw (w .3, w .4) (stage-pass stage (λ e. w .2 .left) (omega arith)))
-      (λ w. rw (w .1, w .2) (stage-pass stage (λ e. absurd (of-yes (sym (w .0 .left) ∙ e))) (omega arith))))
-      (c .if1 .came),
-)
+loop-again c =
+    let here = c .before .before .before .before .before .before in
+    let own = here .loop .inv .1 (omega arith) in (
+      next c .upto,
+      next c .here,
+      λ cells s. rw (c .before .before .before .lowest-past .ensures) (stage-pass (turn-gives (here .loop .inv .2 cells s) (omega arith) (own .0) (own .1)) (next c)),
+    )
 
 returns-2 : tie.Need-returns-2 Inv-loop μ-loop
-returns-2 c =
-    let all : c .before .loop .i ≡ c .before .before .args .count = omega arith in
-    record { all = refl; next = λ cells s. stage-next (rw all at (c .before .loop .inv .1 cells s)) }
+returns-2 c = let last = c .before .loop in record { all = refl; next = λ cells s. stage-next (omega arith) (last .inv .0) (last .inv .2 cells s) }
 
 pub give-from-spec : {M : Type 1} → statement M
 give-from-spec =
@@ -56,10 +65,9 @@ give-from-spec =
     (tie.spec
     Inv-loop
     μ-loop
+    (λ c. omega arith)
+    (λ c. omega arith)
     loop-holds
-    (λ c. omega arith)
-    (λ c. omega arith)
-    (λ c. omega arith)
     lowest-past-requires
     returns
     (λ c. omega arith)
@@ -70,5 +78,6 @@ give-from-spec =
     (λ c. omega arith)
     (λ c. omega arith)
     (λ c. omega arith)
+    (λ c. omega (arith, next c .on))
     loop-again
     returns-2)

@@ -3,25 +3,34 @@
 use mathlib.Core.Path.{_≡_, _∙_}
 use Prim.Native.Nat.{ℕ, _-_, _≤_}
 use native.Mathlib.Omega.{arith}
+use Rattle.channels.specs.Lists.{can-list, listed-none}
 use Rattle.channels.specs.Stages.{Stage, stage-start, stage-end}
 use Rattle.channels.proofs.hand_out.Statement.{statement}
 use Rattle.channels.proofs.hand_out.Tie as tie
 
 abbrev Inv-loop : tie.InvT-loop
-Inv-loop cells count k lo hi kept channel₀ ends₀ v₀ channel ends v = (v ≤ cells) × Stage cells count k lo hi kept channel ends v 0
+Inv-loop cells count k lo hi kept channel₀ first after ends₀ v₀ channel ends v = (v ≤ cells) × Stage cells count k lo hi kept channel ends v 0
 
 abbrev μ-loop : tie.MeasureT-loop
-μ-loop cells count k lo hi kept channel₀ ends₀ v₀ channel ends v = cells - v
+μ-loop cells count k lo hi kept channel₀ first after ends₀ v₀ channel ends v = cells - v
 
 -- an array that is lent as a slice has the length of its type
 clear-requires : tie.Need-clear-requires Inv-loop μ-loop
 clear-requires c κs = omega (arith, c .clear-arg .given .0 .1)
 
+begin-lists-requires : tie.Need-begin-lists-requires Inv-loop μ-loop
+begin-lists-requires c κs = let can = c .before .before .before .before .pre in (can-list can, listed-none (can .count-upto))
+
 loop-holds : tie.Need-loop-holds Inv-loop μ-loop
-loop-holds c = (omega arith, stage-start (c .before .before .pre) (c .clear .kept .1 .0 ∙ c .before .clear-arg .given .0 .1) (c .clear .ensures))
+loop-holds c =
+    let start = c .before .before .before in
+    (omega arith, stage-start (start .before .before .pre) (start .clear .kept .1 .0 ∙ start .before .clear-arg .given .0 .1) (start .clear .ensures))
 
 give-from-requires : tie.Need-give-from-requires Inv-loop μ-loop
-give-from-requires c κs = (c .before .before .before .before .before .before .args .cells, c .before .before .before .loop .inv .1)
+give-from-requires c κs =
+    let here = c .before .before .before .before .before in
+    let start = here .before .before .before .before .before .before in
+    (omega (arith, start .pre .cells-upto), (here .before .begin-lists .ensures, (start .args .cells, here .loop .inv .1)))
 
 enum-told : tie.Need-enum-told Inv-loop μ-loop
 enum-told c = c .match .keys1
@@ -36,11 +45,11 @@ returns c =
     absurd (omega arith)
 
 loop-again : tie.Need-loop-again Inv-loop μ-loop
-loop-again c = (omega arith, c .before .before .give-from .ensures .next _ (c .before .before .before .before .before .before .loop .inv .1))
+loop-again c = (omega arith, c .before .before .give-from .ensures .next _ (c .before .before .before .before .before .before .before .before .loop .inv .1))
 
 returns-2 : tie.Need-returns-2 Inv-loop μ-loop
 returns-2 c =
-    let last : c .before .loop .v ≡ c .before .before .before .before .args .cells = omega arith in
+    let last : c .before .loop .v ≡ c .before .before .before .before .before .before .before .args .cells = omega arith in
     stage-end (rw last at (c .before .loop .inv .1))
 
 pub hand-out-spec : {M : Type 1} → statement M
@@ -50,6 +59,7 @@ hand-out-spec =
     Inv-loop
     μ-loop
     clear-requires
+    begin-lists-requires
     loop-holds
     give-from-requires
     enum-told
