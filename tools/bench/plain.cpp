@@ -1,4 +1,4 @@
-// A whole call in plain C++: reading, the row planner, channels, prices and the cuts of a ring, as the crates above planrow have them.
+// A whole call in plain C++: reading, planning and writing, as crates/reader, crates/planner and crates/desk have them.
 #include "melyonva.h"
 #include "method.h"
 
@@ -45,90 +45,33 @@ int read_book(const uint8_t *p, size_t len, Taken &t)
     return 0;
 }
 
-// A row with what planning it left.
-struct Solved {
-    size_t cells, lo[256], hi[256], room[128];
-    int64_t cost[256], dist[128];
-    bool kept[256];
-};
-
-void solve(const Taken &t, Solved &s)
-{
-    s.cells = t.nodes - 1;
-    for (size_t i = 0; i < t.count; i++) {
-        bool up = t.a[i] < t.b[i];
-        s.lo[i] = up ? t.a[i] : t.b[i], s.hi[i] = up ? t.b[i] : t.a[i], s.cost[i] = -int64_t(t.profit[i]);
-    }
-    for (size_t j = 0; j < s.cells; j++) s.room[j] = t.limits[j];
-    plan_row(s.cells, t.count, s.lo, s.hi, s.cost, s.kept, s.room, s.dist);
-}
-
-size_t earned(const Taken &t, const Solved &s)
-{
-    size_t sum = 0;
-    for (size_t i = 0; i < t.count; i++)
-        if (s.kept[i]) sum += t.profit[i];
-    return sum;
-}
-
-size_t lowest_past(const Taken &t, const Solved &s, const size_t *channel, size_t v)
-{
-    bool held[128] = {};
-    for (size_t j = 0; j < t.count; j++)
-        if (channel[j] != 0 && v < s.hi[j]) held[channel[j]] = true;
-    size_t c = 1;
-    while (c <= t.channels && held[c]) c++;
-    return c;
-}
-
-void hand_out(const Taken &t, const Solved &s, size_t *channel)
-{
-    for (size_t v = 0; v < s.cells; v++)
-        for (size_t i = 0; i < t.count; i++)
-            if (s.kept[i] && s.lo[i] == v) channel[i] = lowest_past(t, s, channel, v);
-}
-
 void put_two(uint8_t *p, size_t value) { p[0] = uint8_t(value >> 8), p[1] = uint8_t(value); }
 
-uint64_t plan_line(const Taken &t, size_t cut, uint8_t *entries, uint8_t *prices)
+void write_entries(size_t count, const size_t *entries, uint8_t *out)
 {
-    Solved s;
-    size_t channel[256] = {}, number = 0;
-    solve(t, s);
-    hand_out(t, s, channel);
-    for (size_t i = 0; i < t.count; i++) {
-        put_two(entries + 2 * i, s.kept[i] ? (t.a[i] < t.b[i] ? 256 : 512) + channel[i] : 0);
-        number += s.kept[i];
-    }
-    for (size_t j = 0; t.shape == 1 && j < s.cells; j++) {
-        size_t fall = size_t(s.dist[j] - s.dist[j + 1]), price = fall < 1000000 ? fall : 1000000;
-        put_two(prices + 4 * j, price >> 16), put_two(prices + 4 * j + 2, price);
-    }
-    return uint64_t(earned(t, s)) << 32 | number << 16 | cut;
+    for (size_t i = 0; i < count; i++) put_two(out + 2 * i, entries[i]);
 }
 
-// The line which a cut leaves.
-void turn(const Taken &t, size_t cut, Taken &line)
+void write_prices(size_t count, const size_t *prices, uint8_t *out)
 {
-    size_t n = t.nodes, first = cut + 1;
-    auto steps = [=](size_t v) { return first <= v ? v - first : v + n - first; };
-    line.shape = 2, line.nodes = n, line.channels = t.channels, line.spans = n - 1, line.count = t.count;
-    for (size_t i = 0; i + 1 < n; i++) line.limits[i] = t.limits[first + i < n ? first + i : first + i - n];
-    for (size_t i = 0; i < t.count; i++) line.a[i] = steps(t.a[i]), line.b[i] = steps(t.b[i]), line.profit[i] = t.profit[i];
+    for (size_t j = 0; j < count; j++) put_two(out + 4 * j, prices[j] >> 16), put_two(out + 4 * j + 2, prices[j]);
 }
 
-uint64_t plan_ring(const Taken &t, uint8_t *entries, uint8_t *prices)
+uint64_t pack(const LinePlan &plan, size_t cut) { return uint64_t(plan.earned) << 32 | plan.number << 16 | cut; }
+
+uint64_t plan_on_line(const Columns &cols, uint8_t *entries, uint8_t *prices)
 {
-    Taken line;
-    Solved s;
-    size_t best = 0, top = 0;
-    for (size_t j = 0; j < t.nodes; j++) {
-        turn(t, j, line), solve(line, s);
-        size_t sum = earned(line, s);
-        if (top < sum) top = sum, best = j;
-    }
-    turn(t, best, line);
-    return plan_line(line, best, entries, prices);
+    LinePlan made = line::plan_line(cols);
+    write_entries(cols.count, made.entries, entries);
+    write_prices(cols.nodes - 1, made.prices, prices);
+    return pack(made, MELYONVA_NO_CUT);
+}
+
+uint64_t plan_on_ring(const Columns &cols, uint8_t *entries)
+{
+    RingPlan made = ring::plan_ring(cols);
+    write_entries(cols.count, made.plan.entries, entries);
+    return pack(made.plan, made.cut);
 }
 }  // namespace
 
@@ -136,6 +79,7 @@ uint64_t plan(const uint8_t *book, size_t book_len, uint8_t *entries, uint8_t *p
 {
     Taken t;
     if (int row = read_book(book, book_len, t)) return 1ull << 63 | uint64_t(row) << 32;
-    return t.shape == 1 ? plan_line(t, MELYONVA_NO_CUT, entries, prices) : plan_ring(t, entries, prices);
+    Columns cols = {t.nodes, t.channels, t.count, t.limits, t.a, t.b, t.profit};
+    return t.shape == 1 ? plan_on_line(cols, entries, prices) : plan_on_ring(cols, entries);
 }
 }  // namespace plain

@@ -74,10 +74,12 @@ void report_desk(const Table &lines, const Table &rings)
     fflush(stdout);
 }
 
-static void goal(const char *what, double got, double most)
+static void goal(const std::string &what, double got, const char *bound, double limit, bool met)
 {
-    printf("  %-66s %7.3f  at most %.2f: %s\n", what, got, most, got <= most ? "yes" : "NO");
+    printf("  %-66s %7.3f  %s %.2f: %s\n", what.c_str(), got, bound, limit, met ? "yes" : "NO");
 }
+static void goal_at_most(const std::string &what, double got, double limit) { goal(what, got, "at most", limit, got <= limit); }
+static void goal_below(const std::string &what, double got, double limit) { goal(what, got, "below", limit, got < limit); }
 
 void report_goals(const Table &lines, const Table &rings)
 {
@@ -85,16 +87,16 @@ void report_goals(const Table &lines, const Table &rings)
     printf("\nGoals\n");
     if (line.empty()) puts("  (LEMON is not installed: nothing to compare with)");
     if (!line.empty()) {
-        goal("a line / better LEMON run alone, median of all families", median(line), 0.5);
-        goal("a line / better LEMON run alone, worst family", most(line), 1.5);
-        goal("a ring / LEMON run once for each cut, median of all families", median(ring), 0.15);
-        goal("a ring / LEMON run once for each cut, worst family", most(ring), 0.15);
+        goal_at_most("a line / better LEMON run alone, median of all families", median(line), 0.5);
+        goal_at_most("a line / better LEMON run alone, worst family", most(line), 1.5);
+        goal_at_most("a ring / LEMON run once for each cut, median of all families", median(ring), 0.15);
+        goal_at_most("a ring / LEMON run once for each cut, worst family", most(ring), 0.15);
     }
     for (const char *name : {"reading", "checking"}) {
         std::vector<double> part = ratios(lines.column(name), lines.column("ours"));
         std::string what = std::string(name) + " / planning a line, ";
-        goal((what + "median of all families").c_str(), median(part), 0.05);
-        goal((what + "worst family").c_str(), most(part), 0.05);
+        goal_below(what + "median of all families", median(part), 0.05);
+        goal_below(what + "worst family", most(part), 0.05);
     }
     fflush(stdout);
 }
