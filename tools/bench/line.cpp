@@ -4,45 +4,45 @@
 namespace plain {
 namespace channels {
 namespace {
-// Marks the channels that one of the first `count` holds which reaches past node `from`.
-void mark_held(size_t count, const size_t *hi, const size_t *channel, size_t from, bool *held)
-{
-    for (size_t j = 0; j < count; j++)
-        if (channel[j] != 0 && from < hi[j]) held[channel[j]] = true;
-}
-
-// The lowest of the channels 1 to k that is not marked, or k + 1.
-size_t lowest_in(size_t k, const bool *held)
+// The lowest of the channels 1 to k whose latest connection ends no later than node `from`, or k + 1.
+size_t lowest_past(size_t k, const size_t *ends, size_t from)
 {
     size_t c = 1;
-    while (c <= k && held[c]) c++;
+    while (c <= k && from < ends[c]) c++;
     return c;
 }
 
-size_t lowest_past(size_t count, size_t k, const size_t *hi, const size_t *channel, size_t from)
+// Lists the kept ones by first node, in rising number: from the highest down, so that each comes in front of the higher ones.
+void begin_lists(size_t count, const size_t *lo, const bool *kept, size_t *first, size_t *after)
 {
-    bool held[128] = {};
-    mark_held(count, hi, channel, from, held);
-    return lowest_in(k, held);
+    for (size_t e = count; 0 < e--;)
+        if (kept[e]) after[e] = first[lo[e]], first[lo[e]] = e;
 }
 
 // Those kept ones that begin at node v, by number. False where no channel is left, which never happens.
-bool give_from(size_t v, size_t count, size_t k, const size_t *lo, const size_t *hi, const bool *kept, size_t *channel)
+bool give_from(size_t v, size_t count, size_t k, const size_t *hi, const size_t *first, const size_t *after, size_t *channel, size_t *ends)
 {
-    for (size_t i = 0; i < count; i++) {
-        if (!kept[i] || lo[i] != v) continue;
-        size_t c = lowest_past(count, k, hi, channel, v);
+    for (size_t i = first[v]; i < count; i = after[i]) {
+        size_t c = lowest_past(k, ends, v);
         if (k < c) return false;
-        channel[i] = c;
+        channel[i] = c, ends[c] = hi[i];
     }
     return true;
 }
 
-bool hand_out(size_t cells, size_t count, size_t k, const size_t *lo, const size_t *hi, const bool *kept, size_t *channel)
+void clear(size_t count, size_t *channel)
 {
     for (size_t j = 0; j < count; j++) channel[j] = 0;
+}
+
+bool hand_out(size_t cells, size_t count, size_t k, const size_t *lo, const size_t *hi, const bool *kept, size_t *channel)
+{
+    size_t first[128], after[256] = {}, ends[128] = {};
+    clear(count, channel);
+    for (size_t &f : first) f = 256;  // leads to none: every number is below it
+    begin_lists(count, lo, kept, first, after);
     for (size_t v = 0; v < cells; v++)
-        if (!give_from(v, count, k, lo, hi, kept, channel)) return false;
+        if (!give_from(v, count, k, hi, first, after, channel, ends)) return false;
     return true;
 }
 }  // namespace
