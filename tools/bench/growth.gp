@@ -11,5 +11,5 @@ set offsets 0,0,graph 0.3,0
 do for [name in 'requests nodes channels ring-nodes'] {
   set xlabel name eq 'ring-nodes' ? 'nodes of a ring (LEMON: once for each cut)' : name.' of a line'
   file = 'target/bench/growth-'.name.'.dat'
-  plot file using 1:2 with lines lw 2 title 'ours', file using 1:3 with lines dt 2 title 'plain C++', file using 1:4 with lines dt 4 title 'better LEMON, run alone'
+  plot file using 1:2 with lines lw 2 title 'ours', file using 1:3 with lines lw 1 title 'plain C++', file using 1:4 with linespoints lw 1 pt 7 ps 0.4 title 'better LEMON, run alone'
 }
