@@ -1,23 +1,17 @@
 -- A plan's text from columns of numbers is the book's own text, whatever book the columns hold: each request's line is made of the same numbers.
 -- Assumes nothing.
 use mathlib.Core.List.{List, _++_}
-use mathlib.Core.Path.{_≡_, refl, ap₂}
-use Prim.Native.Nat.{ℕ, zero, suc, _/_, _%_, _<_}
-use native.Mathlib.Omega.{arith}
+use mathlib.Core.Path.{_≡_}
+use Prim.Native.Nat.{ℕ, _/_, _%_, _<_}
 use lib.Dec.{eqb}
 use Rattle.book.specs.Book.{Book}
 use Rattle.book.specs.Columns.{at, Holds}
 use Rattle.rules.specs.Plans.{way, channel}
-use Rattle.print.specs.Printed.{firstLine, requestLine, lines, printedRequest, printedPlan}
+use Rattle.print.specs.Printed.{firstLine, requestLine, lines, lines-ext, printedRequest, printedPlan}
 
 -- request i's line
 abbrev pub lineAt : List ℕ → List ℕ → List ℕ → ℕ → List ℕ
 lineAt a b entries i = requestLine i (at a i) (at b i) (at entries i / 256) (at entries i % 256)
-
-lines-ext : (n : ℕ) (f g : ℕ → List ℕ) → ((i : ℕ) → i < n → f i ≡ g i) → lines n f ≡ lines n g
-unfolding lines
-lines-ext zero f g h = refl
-lines-ext (suc n) f g h = ap₂ _++_ (lines-ext n f g (λ i l. h i (omega arith))) (h n (omega arith))
 
 pub same-text :
     (book : Book) (shape count earned number cut : ℕ) (limits a b profits entries : List ℕ)

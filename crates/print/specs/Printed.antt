@@ -2,8 +2,9 @@
 -- Assumes nothing.
 use mathlib.Core.Bool.{Bool, false, cond}
 use mathlib.Core.List.{List, [], _++_}
-use mathlib.Core.Path.{_≡_}
-use Prim.Native.Nat.{ℕ, zero, suc}
+use mathlib.Core.Path.{_≡_, refl, ap, ap₂}
+use Prim.Native.Nat.{ℕ, zero, suc, _<_}
+use native.Mathlib.Omega.{arith}
 use borrow.Author.Tests.{eqb-true, not-false}
 use lib.Dec.{eqb}
 use Rattle.text.specs.Words.{word}
@@ -41,3 +42,17 @@ printedPlan book plan earned number cut = firstLine (isLine book) earned number 
 pub not-kept : (book : Book) (plan : Plan) (i : ℕ) → kept plan i ≡ false → printedRequest book plan i ≡ requestLine i (endA book i) (endB book i) 0 0
 unfolding printedRequest kept way channel
 not-kept book plan i e = let none : plan i ≡ 0 = eqb-true (plan i) 0 (not-false (eqb (plan i) 0) e) in rw none
+
+-- texts of equal lines are equal
+pub lines-ext : (n : ℕ) (f g : ℕ → List ℕ) → ((i : ℕ) → i < n → f i ≡ g i) → lines n f ≡ lines n g
+unfolding lines
+lines-ext zero f g h = refl
+lines-ext (suc n) f g h = ap₂ _++_ (lines-ext n f g (λ i l. h i (omega arith))) (h n (omega arith))
+
+-- of a plan the text shows the entries of the book's requests, and nothing else
+pub same-entries :
+    (book : Book) (plan other : Plan) (earned number cut : ℕ)
+    → ((i : ℕ) → i < count book → plan i ≡ other i) → printedPlan book plan earned number cut ≡ printedPlan book other earned number cut
+unfolding printedPlan printedRequest way channel
+same-entries book plan other earned number cut same =
+    ap (λ (text : List ℕ). firstLine (isLine book) earned number cut ++ text) (lines-ext (count book) (printedRequest book plan) (printedRequest book other) (λ i l. rw (same i l)))
