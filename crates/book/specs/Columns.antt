@@ -3,12 +3,9 @@
 use mathlib.Core.List.{List}
 use mathlib.Core.Path.{_≡_}
 use Prim.Native.Nat.{ℕ, _<_}
-use lib.ListN.{getD}
+pub use Rattle.sums.specs.At.{at}
 use Rattle.book.specs.Book as Books
 use Rattle.book.specs.Book.{Book, spans, limit, endA, endB, profit}
-
-abbrev pub at : List ℕ → ℕ → ℕ
-at xs i = getD xs i 0
 
 -- the book's limits, ends and profits stand in these lists; what stands past them is not looked at
 pub record Holds (book : Book) (count : ℕ) (limits a b profits : List ℕ) : Type 0 where

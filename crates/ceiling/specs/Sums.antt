@@ -14,7 +14,8 @@ use Rattle.row.specs.Row.{cost}
 use Rattle.row.specs.Along.{cost-along}
 use Rattle.lines.specs.RowOf.{rowOf}
 use Rattle.lines.specs.Ceiling.{ceiling-row}
-use Rattle.ceiling.specs.PricedLine.{PricedLine, few-spans, few, a-in, b-in, profit-in, limit-in}
+use Rattle.lines.specs.HeldLine.{few-spans, few, a-in, b-in, profit-in, limit-in}
+use Rattle.ceiling.specs.PricedLine.{PricedLine}
 use Rattle.ceiling.specs.Tolls.{Payable, Tolled, rent-upto}
 use Rattle.ceiling.specs.Surplus.{costAt, Tallies}
 

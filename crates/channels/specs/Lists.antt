@@ -19,7 +19,7 @@ pub record Leads (count i v : ℕ) (lo : List ℕ) (kept : List Bool) (p : ℕ) 
   pub here : p < count → (flag kept p ≡ true) × (at lo p ≡ v)
 
 -- the numbers from i on are in the lists: `first` leads to a node's first one, `after` from each to the next
-pub record Listed (count i : ℕ) (lo : List ℕ) (kept : List Bool) (first after : List ℕ) : Type 0 where
+pub record ListedByNode (count i : ℕ) (lo : List ℕ) (kept : List Bool) (first after : List ℕ) : Type 0 where
   pub first-long : length first ≡ 128
   pub after-long : length after ≡ 256
   pub begins : (v : ℕ) → v < 128 → Leads count i v lo kept (at first v)
@@ -31,11 +31,11 @@ pub record CanList (count : ℕ) (lo : List ℕ) : Type 0 where
   pub below : (j : ℕ) → j < count → at lo j < 128
 
 pub can-list : {cells count k : ℕ} {lo hi : List ℕ} {kept : List Bool} → CanHandOut cells count k lo hi kept → CanList count lo
-can-list can = record { count-upto = can .count-upto; below = λ j l. omega (arith, can .some-cell j l, can .in-row j l, can .cells-upto) }
+can-list can = record { count-upto = can .count-upto; below = λ j l. omega (arith, can .proper .some-cell j l, can .proper .in-row j l, can .cells-upto) }
 
 module _ {count : ℕ} {lo : List ℕ} {kept : List Bool} where
   -- no number is in the lists
-  pub listed-none : count ≤ 256 → Listed count count lo kept (replicate 128 256) (replicate 256 0)
+  pub listed-none : count ≤ 256 → ListedByNode count count lo kept (replicate 128 256) (replicate 256 0)
   listed-none few = record { first-long = refl; after-long = refl; begins = begins; next = λ j from l. absurd (omega arith) }
     where
       begins : (v : ℕ) → v < 128 → Leads count count v lo kept (at (replicate 128 256) v)
@@ -52,14 +52,14 @@ module _ {count : ℕ} {lo : List ℕ} {kept : List Bool} where
 
   -- the turn of e, when those from i = e + 1 on are in the lists; then those from n = e on are
   module _
-      {i n : ℕ} (e : ℕ) {first after : List ℕ} (can : CanList count lo) (l : e < count) (listed : Listed count i lo kept first after)
+      {i n : ℕ} (e : ℕ) {first after : List ℕ} (can : CanList count lo) (l : e < count) (listed : ListedByNode count i lo kept first after)
       (above : i ≡ e + 1) (left : n ≡ e)
     where
-      s : Listed count (e + 1) lo kept first after
+      s : ListedByNode count (e + 1) lo kept first after
       s = rw above at listed
 
       -- e is not kept
-      pub listed-pass : flag kept e ≡ false → Listed count n lo kept first after
+      pub listed-pass : flag kept e ≡ false → ListedByNode count n lo kept first after
       listed-pass dropped = rw left (record {
         first-long = s .first-long;
         after-long = s .after-long;
@@ -68,7 +68,7 @@ module _ {count : ℕ} {lo : List ℕ} {kept : List Bool} where
       })
 
       -- e is kept, and comes in front of the list of its node
-      pub listed-more : flag kept e ≡ true → Listed count n lo kept (set first (at lo e) e) (set after e (at first (at lo e)))
+      pub listed-more : flag kept e ≡ true → ListedByNode count n lo kept (set first (at lo e) e) (set after e (at first (at lo e)))
       listed-more is = rw left (record {
         first-long = length-set first (at lo e) e ∙ s .first-long;
         after-long = length-set after e (at first (at lo e)) ∙ s .after-long;

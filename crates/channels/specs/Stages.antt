@@ -11,7 +11,7 @@ use Rattle.sums.specs.Each.{of-yes, less-or-not}
 use Rattle.sums.specs.Lowest.{lowestFree}
 use Rattle.row.specs.Row.{heldBefore}
 use Rattle.row.specs.Channels.{Ruled, rule-ext, at-most-load, ruled-exists}
-use Rattle.channels.specs.HandOut.{at, flag, rowOf, CanHandOut, HandedOut}
+use Rattle.channels.specs.HandOut.{at, flag, rowOn, CanHandOut, HandedOut}
 use Rattle.channels.specs.Latest.{Latest, latest-start}
 use Rattle.channels.specs.Lists.{Leads}
 use Rattle.channels.specs.declared.Given.{Given}
@@ -23,7 +23,7 @@ place v i = v * 256 + i
 
 -- the channels by the rule: there is one such choice (`ruled-exists` and `ruled-once` of the crate row)
 abbrev pub rule : ℕ → ℕ → ℕ → List ℕ → List ℕ → List Bool → ℕ → ℕ
-rule cells count k lo hi kept = ruled-exists (rowOf cells count lo hi) k (flag kept) .0
+rule cells count k lo hi kept = ruled-exists (rowOn cells count lo hi) k (flag kept) .0
 
 -- it is the turn of number i at node v; `ends` is all that is remembered of the channels given
 pub record Stage (cells count k : ℕ) (lo hi : List ℕ) (kept : List Bool) (channel ends : List ℕ) (v i : ℕ) : Type 0 where
@@ -41,14 +41,14 @@ pub record Turned (v count k : ℕ) (lo hi : List ℕ) (kept : List Bool) (chann
 -- ---- what the rule gives
 
 module _ {cells count k : ℕ} {lo hi : List ℕ} {kept : List Bool} (can : CanHandOut cells count k lo hi kept) where
-  pub rule-is : Ruled (rowOf cells count lo hi) k (flag kept) (rule cells count k lo hi kept)
-  rule-is = ruled-exists (rowOf cells count lo hi) k (flag kept) .1
+  pub rule-is : Ruled (rowOn cells count lo hi) k (flag kept) (rule cells count k lo hi kept)
+  rule-is = ruled-exists (rowOn cells count lo hi) k (flag kept) .1
 
   -- at most the load at the first cell, which is at most k
   pub rule-upto : (i : ℕ) → i < count → flag kept i ≡ true → rule cells count k lo hi kept i ≤ k
   rule-upto i l e =
-      let some = can .some-cell i l in
-      omega (arith, at-most-load (rowOf cells count lo hi) k (flag kept) _ rule-is i l e some, can .fits (at lo i) (omega (arith, can .in-row i l)))
+      let some = can .proper .some-cell i l in
+      omega (arith, at-most-load (rowOn cells count lo hi) k (flag kept) _ rule-is i l e some, can .fits (at lo i) (omega (arith, can .proper .in-row i l)))
 
 -- ---- from one stage to the next
 
@@ -97,12 +97,12 @@ module _ {cells count k : ℕ} {lo hi : List ℕ} {kept : List Bool} {channel : 
   stage-end s = record { all = refl; ruled = record { is = is }; upto = channel-upto s; none = none }
     where
       every : (j : ℕ) → j < count → flag kept j ≡ true → at channel j ≡ rule cells count k lo hi kept j
-      every j l e = s .given j l e (omega (arith, s .can .some-cell j l, s .can .in-row j l, s .can .count-upto))
+      every j l e = s .given j l e (omega (arith, s .can .proper .some-cell j l, s .can .proper .in-row j l, s .can .count-upto))
 
-      is : (i : ℕ) → i < count → flag kept i ≡ true → at channel i ≡ lowestFree k (heldBefore (rowOf cells count lo hi) (flag kept) (at channel) i)
+      is : (i : ℕ) → i < count → flag kept i ≡ true → at channel i ≡ lowestFree k (heldBefore (rowOn cells count lo hi) (flag kept) (at channel) i)
       is i l e =
           every i l e ∙ rule-is (s .can) .is i l e
-          ∙ rule-ext (rowOf cells count lo hi) (flag kept) k _ (at channel) i (record { at = λ j lj ej b. sym (every j lj ej) })
+          ∙ rule-ext (rowOn cells count lo hi) (flag kept) k _ (at channel) i (record { at = λ j lj ej b. sym (every j lj ej) })
 
       none : (i : ℕ) → i < count → flag kept i ≡ false → at channel i ≡ 0
       none i l e = ⊎-elim (λ h. absurd (of-yes (sym e ∙ s .only i l h .0))) (λ h. omega arith) (less-or-not 0 (at channel i))

@@ -14,7 +14,7 @@ use Rattle.sums.specs.Lowest.{lowestFree, lowest-from, lowest-free, lowest-ext}
 use Rattle.row.specs.Row.{Row, before, meet, heldBefore}
 use Rattle.row.specs.Channels.{Holder, held-by, held-of, Agree, rule-ext}
 use Rattle.row.specs.Meets.{covers-of, meet-begins, before-cases, before-lo, before-number}
-use Rattle.channels.specs.HandOut.{at, flag, rowOf}
+use Rattle.channels.specs.HandOut.{at, flag, rowOn}
 use Rattle.channels.specs.Latest.{heldPast, Latest, latest-given}
 use Rattle.channels.specs.Stages.{place, rule, Stage, rule-is, rule-upto}
 
@@ -31,7 +31,7 @@ module _
     (s : Stage cells count k lo hi kept channel ends v i) (l : i < count) (e : flag kept i ≡ true) (begins : at lo i ≡ v)
   where
     abbrev row : Row
-    row = rowOf cells count lo hi
+    row = rowOn cells count lo hi
 
     -- "before" is the order of the places
     first-place : (j : ℕ) → j < count → before row j i ≡ true → place (at lo j) j < place v i
@@ -62,9 +62,9 @@ module _
 
         meets : meet row j i ≡ true
         meets =
-            some-of cells _ v (omega (arith, s .can .some-cell i l, s .can .in-row i l))
+            some-of cells _ v (omega (arith, s .can .proper .some-cell i l, s .can .proper .in-row i l))
             (both _ _ (covers-of row j v (omega (arith, first .1, s .can .count-upto)) (omega (arith, last .3)))
-            (covers-of row i v (omega arith) (omega (arith, s .can .some-cell i l))))
+            (covers-of row i v (omega arith) (omega (arith, s .can .proper .some-cell i l))))
 
     -- one on c that meets i reaches past v, and the latest on c ends no earlier
     before-past : (c j : ℕ) → 1 ≤ c → Holder row (flag kept) (at channel) i c j → v < at ends c
@@ -111,7 +111,7 @@ module _
         latest =
             let upto = turn-enough in
             let ended : at ends taken ≤ v = ltb-false _ _ (lowest-free k (heldPast ends v) upto) in
-            latest-given (s .latest) l (s .long) (s .can .count-upto) (lowest-from k _) (omega (arith, s .can .k-upto)) none (omega (arith, s .can .some-cell i l))
+            latest-given (s .latest) l (s .long) (s .can .count-upto) (lowest-from k _) (omega (arith, s .can .k-upto)) none (omega (arith, s .can .proper .some-cell i l))
           where
             none : at channel i ≡ 0
             none = ⊎-elim (λ h. absurd (omega (arith, s .only i l h .1))) (λ h. omega arith) (less-or-not 0 (at channel i))

@@ -6,7 +6,7 @@ ghost use lib.ListN.{getD, length};
 ghost use Rattle.sums.specs.Lowest.{lowestFree};
 ghost use Rattle.channels.specs.HandOut.{CanHandOut, HandedOut};
 ghost use Rattle.channels.specs.Latest.{heldPast};
-ghost use Rattle.channels.specs.Lists.{CanList, Listed};
+ghost use Rattle.channels.specs.Lists.{CanList, ListedByNode};
 ghost use Rattle.channels.specs.Stages.{Stage, Turned};
 
 // Whether every kept one has a channel, or the one that finds none of 1 to k left (refusal 15).
@@ -39,8 +39,8 @@ fn begin_lists(
     after: &mut [usize; 256],
 )
     requires { ⌜ CanList count (now lo) ⌝ }
-    requires { ⌜ Listed count count (now lo) (now kept) (now first) (now after) ⌝ }
-    ensures { λ r. ⌜ Listed count 0 (now (lo .entry)) (now (kept .entry)) (now (first .exit)) (now (after .exit)) ⌝ }
+    requires { ⌜ ListedByNode count count (now lo) (now kept) (now first) (now after) ⌝ }
+    ensures { λ r. ⌜ ListedByNode count 0 (now (lo .entry)) (now (kept .entry)) (now (first .exit)) (now (after .exit)) ⌝ }
 {
     // from the highest number down, so that each comes in front of the higher ones
     let mut i = count;
@@ -70,7 +70,7 @@ fn give_from(
     ends: &mut [usize; 128],
 ) -> Given
     requires { ⌜ v < 128 ⌝ }
-    requires { ⌜ Listed count 0 (now lo) (now kept) (now first) (now after) ⌝ }
+    requires { ⌜ ListedByNode count 0 (now lo) (now kept) (now first) (now after) ⌝ }
     requires { ⌜ ((cells : ℕ) × Stage cells count k (now lo) (now hi) (now kept) (now channel) (now ends) v 0) ⌝ }
     ensures { λ r. ⌜ Turned v count k (now (lo .entry)) (now (hi .entry)) (now (kept .entry)) (now (channel .entry)) (now (ends .entry)) r (now (channel .exit)) (now (ends .exit)) ⌝ }
 {

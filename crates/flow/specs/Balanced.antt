@@ -6,11 +6,7 @@ use mathlib.Core.Path.{_≡_}
 use Prim.Native.Nat.{ℕ, suc, _+_, _-_, _≤_, _<_}
 use Rattle.sums.specs.Sums.{Σ, bit}
 use Rattle.row.specs.Row.{Row, covers}
-
--- the first t candidates are real intervals of the row
-pub record Proper (row : Row) (t : ℕ) : Type 0 where
-  pub some-cell : (i : ℕ) → i < t → row .lo i < row .hi i
-  pub in-row : (i : ℕ) → i < t → row .hi i ≤ row .cells
+pub use Rattle.row.specs.Row.{Proper}
 
 -- how many of the first t candidates that x keeps are over cell j
 unfoldable pub loadTo : Row → ℕ → (ℕ → Bool) → ℕ → ℕ

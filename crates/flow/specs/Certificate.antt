@@ -9,7 +9,7 @@ use native.Mathlib.Nat.{eq-or-lt-of-le, le-of-suc-le-suc, eq-zero-or-pos}
 use native.Mathlib.Omega.{arith}
 use Rattle.sums.specs.Each.{of-yes}
 use Rattle.sums.specs.Sums.{Σ, bit, Σ-ext}
-use Rattle.row.specs.Row.{Row, covers, load, cost, Within, Tight}
+use Rattle.row.specs.Row.{Row, covers, load, cost, WithinLimits, Tight}
 use Rattle.row.specs.Along.{cost-along}
 use Rattle.flow.specs.Balanced.{Proper, loadTo, Deep, Balanced, priceAt}
 
@@ -45,7 +45,7 @@ empty-balanced free flat = record {
   };
 }
 
-pub balanced-within : {row : Row} {x : ℕ → Bool} {s N : ℕ → ℕ} → Balanced row (row .count) x s N → Within row x
+pub balanced-within : {row : Row} {x : ℕ → Bool} {s N : ℕ → ℕ} → Balanced row (row .count) x s N → WithinLimits row x
 unfolding load loadTo
 balanced-within b = record { holds = λ j l. omega (arith, b .room j l) }
 

@@ -10,7 +10,7 @@ use Rattle.book.specs.Columns.{at, Holds}
 use Rattle.row.specs.Same.{SameIntervals, Same}
 use Rattle.lines.specs.RowOf.{rowOf}
 use Rattle.planrow.specs.State.{rowIn}
-use Rattle.channels.specs.HandOut.{rowOf as rowOn}
+use Rattle.channels.specs.HandOut.{rowOn}
 use Rattle.line.specs.Steps.{Candidates}
 
 module _

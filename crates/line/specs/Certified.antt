@@ -1,6 +1,6 @@
 -- What the row planner leaves is, on a line, a kept set within the limits that earns the ceiling of its prices: the state of the flow is the
 -- certificate of the row, and prices cut down to 1,000,000, which no profit exceeds, still certify. So the set earns the best. Assumes nothing.
-use mathlib.Core.Path.{_≡_, refl, sym, ap, _∙_}
+use mathlib.Core.Path.{_≡_, sym, ap, _∙_}
 use mathlib.Core.Bool.{Bool, true, _&&_}
 use Prim.Native.Nat.{ℕ, _≤_, _<_}
 use native.Mathlib.Omega.{arith}
@@ -11,7 +11,7 @@ use Rattle.book.specs.Book.{Book, limit, count}
 use Rattle.rules.specs.Plans.{Plan, kept, obeys}
 use Rattle.rules.specs.Prices.{Prices, verdict}
 use Rattle.rules.specs.Best.{best}
-use Rattle.row.specs.Row.{Row, load, worth, Within, Tight}
+use Rattle.row.specs.Row.{Row, load, worth, WithinLimits, Tight}
 use Rattle.row.specs.Duality.{tight}
 use Rattle.row.specs.Answers.{same-worth}
 use Rattle.row.specs.Clamp.{clamp, clamped}
@@ -29,7 +29,7 @@ use Rattle.lines.specs.Best.{attained}
 
 -- x is within the limits of the line, and certified by the prices y
 pub record Certified (book : Book) (x : ℕ → Bool) (y : Prices) : Type 0 where
-  pub within : Within (rowOf book) x
+  pub within : WithinLimits (rowOf book) x
   pub certificate : Tight (rowOf book) x y
 
 -- ---- the state of the flow is a certificate
@@ -38,8 +38,8 @@ module _ {book : Book} (on : Line book) {row : Row} (same : Same row (rowOf book
   real : Proper row (row .count)
   unfolding rowOf
   real = record {
-    some-cell = λ i l. omega (arith, same .intervals .lo i l, same .intervals .hi i l, proper on (λ j. true) .some-cell i (omega (arith, same .intervals .count)) refl);
-    in-row = λ i l. omega (arith, same .intervals .hi i l, same .intervals .cells, proper on (λ j. true) .in-row i (omega (arith, same .intervals .count)) refl);
+    some-cell = λ i l. omega (arith, same .intervals .lo i l, same .intervals .hi i l, proper on .some-cell i (omega (arith, same .intervals .count)));
+    in-row = λ i l. omega (arith, same .intervals .hi i l, same .intervals .cells, proper on .in-row i (omega (arith, same .intervals .count)));
   }
 
   small : (i : ℕ) → i < row .count → row .profit i ≤ 1000000

@@ -2,23 +2,21 @@
 use mathlib.Core.Bool.{true}
 use mathlib.Core.List.{List}
 use mathlib.Core.Path.{_≡_}
-use Prim.Native.Nat.{ℕ, _≤_, _<_}
+use Prim.Native.Nat.{ℕ, _-_, _≤_, _<_}
 use Rattle.book.specs.Book.{Book, spans}
-use Rattle.book.specs.Columns.{at, Holds}
+use Rattle.book.specs.Columns.{at}
 use Rattle.rules.specs.Plans.{numberKept, earnings, Best}
 use Rattle.rules.specs.Channels.{byRule}
 use Rattle.rules.specs.Prices.{verdict}
-use Rattle.lines.specs.Line.{Line}
+use Rattle.lines.specs.HeldLine.{HeldLine}
 use Rattle.line.specs.declared.Solved.{Solved}
 use Rattle.line.specs.declared.Solved.the-variants.{Planned}
 
--- the columns hold a line's accepted book
+-- the columns hold a line's accepted book; it has one span less than nodes
 pub record CanPlanLine (nodes channels count : ℕ) (limits a b profits : List ℕ) : Type 0 where
   pub book : Book
-  pub line : Line book
-  pub nodes-is : nodes ≡ book .nodes
+  pub held : HeldLine book (nodes - 1) count limits a b profits
   pub channels-is : channels ≡ book .channels
-  pub holds : Holds book count limits a b profits
 
 -- A best plan with the channels of the rule; earnings and number kept are sums over its entries; prices up to 1,000,000 at which the checker accepts it.
 -- Refusal 15 is never the answer.

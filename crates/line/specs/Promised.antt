@@ -3,12 +3,11 @@
 use mathlib.Core.Path.{_≡_, refl, sym, ap, ap₂, subst, _∙_}
 use mathlib.Core.Bool.{Bool, true}
 use mathlib.Core.List.{List}
-use Prim.Native.Nat.{ℕ, suc, _-_, _<_}
+use Prim.Native.Nat.{ℕ, suc, _-_, _≤_, _<_}
 use native.Mathlib.Omega.{arith}
 use lib.IntN.{ℤ}
 use Rattle.sums.specs.Sums.{when, Σ-ext}
 use Rattle.sums.specs.Filled.{Filled}
-use Rattle.book.specs.Book as Books
 use Rattle.book.specs.Book.{spans}
 use Rattle.book.specs.Columns.{at}
 use Rattle.rules.specs.Plans.{kept, channel, obeys}
@@ -21,11 +20,12 @@ use Rattle.row.specs.Channels.{Ruled}
 use Rattle.row.specs.Same.{SameIntervals, SameKept, Same, load-same, ruled-same}
 use Rattle.lines.specs.RowOf.{rowOf}
 use Rattle.lines.specs.Ways.{line-spans}
+use Rattle.lines.specs.HeldLine.{few-spans, few, a-in, b-in, ends-differ, profit-in, limit-in}
 use Rattle.lines.specs.Laid.{Laid, load-row, ruled-rule}
 use Rattle.lines.specs.Found.{rule-obeys}
 use Rattle.lines.specs.Ceiling.{yes-best}
 use Rattle.planrow.specs.State.{flag, rowIn}
-use Rattle.channels.specs.HandOut.{rowOf as rowOn, CanHandOut, HandedOut}
+use Rattle.channels.specs.HandOut.{rowOn, CanHandOut, HandedOut}
 use Rattle.channels.specs.declared.Given.{Given}
 use Rattle.line.specs.declared.Solved.the-variants.{Planned}
 use Rattle.line.specs.Promise.{CanPlanLine, LinePlanned}
@@ -37,38 +37,39 @@ use Rattle.line.specs.Written.{keeps-are, goes-its-way, channels-are, su
 
 module _ {nodes k count : ℕ} {limits a b profits : List ℕ} (w : CanPlanLine nodes k count limits a b profits) where
   cells-are : nodes - 1 ≡ spans (w .book)
-  cells-are = omega (arith, w .nodes-is, line-spans (w .line))
+  cells-are = w .held .spans-is
+
+  pub some-node : 1 ≤ nodes
+  some-node = omega (arith, cells-are, line-spans (w .held .line), w .held .line .sound .nodes-from)
 
   pub can-solve : CanSolve (nodes - 1) count limits a b profits
   can-solve =
-      let s = w .line .sound in
-      let known : (i : ℕ) → i < count → i < Books.count (w .book) = λ i l. omega (arith, w .holds .counted) in
+      let h = w .held in
       record {
-        cells-upto = omega (arith, s .nodes-upto, w .nodes-is);
-        profits-are = record { few = omega (arith, s .count-upto, w .holds .counted); upto = λ i l. omega (arith, w .holds .profit-is i l, s .profit-upto i (known i l)) };
-        a-node = λ i l. omega (arith, w .nodes-is, w .holds .a-is i l, s .a-node i (known i l));
-        b-node = λ i l. omega (arith, w .nodes-is, w .holds .b-is i l, s .b-node i (known i l));
-        ends-differ = λ i l e. s .ends-differ i (known i l) (sym (w .holds .a-is i l) ∙ e ∙ w .holds .b-is i l);
-        limits-upto = λ j l. let h : j < spans (w .book) = omega (arith, cells-are) in omega (arith, w .holds .limit-is j h, s .limit-upto j h, s .channels-upto);
+        cells-upto = few-spans h;
+        profits-are = record { few = few h; upto = profit-in h };
+        a-node = a-in h;
+        b-node = b-in h;
+        ends-differ = ends-differ h;
+        limits-upto = λ j l. omega (arith, limit-in h j l);
       }
 
   module _
-      {lo hi : List ℕ} {cost : List ℤ} {keeps : List Bool} {room : List ℕ} {dist : List ℤ}
-      (s : Solves (nodes - 1) count limits a b profits lo hi cost keeps room dist)
+      {lo hi : List ℕ} {keeps : List Bool} {dist : List ℤ} (s : Solves (nodes - 1) count limits a b profits lo hi keeps dist)
     where
       over : SameIntervals (rowOn (nodes - 1) count lo hi) (rowOf (w .book))
-      over = same-intervals (w .holds) (s .candidates) cells-are
+      over = same-intervals (w .held .holds) (s .candidates) cells-are
 
-      same : Same (rowIn (at (s .free)) count (nodes - 1) lo hi cost) (rowOf (w .book))
-      same = same-row (w .holds) (s .candidates) cells-are (s .free) (s .free-is)
+      same : Same (rowIn (at (s .free)) count (nodes - 1) lo hi (s .cost)) (rowOf (w .book))
+      same = same-row (w .held .holds) (s .candidates) cells-are (s .free) (s .free-is)
 
       -- the kept set is certified by the prices, whatever plan and price list they stand in
       stands : {x : ℕ → Bool} {y : Prices} → SameKept count (flag keeps) x → ((j : ℕ) → j < nodes - 1 → prices-of dist j ≡ y j) → Certified (w .book) x y
-      stands = certified (w .line) same (s .standing .balanced)
+      stands = certified (w .held .line) same (s .standing .balanced)
 
       pub sum-best : sumOf count keeps profits ≡ best (w .book)
       unfolding worth rowOf
-      sum-best = Σ-ext count _ _ (λ i l. ap (when (flag keeps i)) (w .holds .profit-is i l)) ∙ rw (w .holds .counted) (earns-best (w .line) (stands {y = prices-of dist} (λ i l. refl) (λ j l. refl)))
+      sum-best = Σ-ext count _ _ (λ i l. ap (when (flag keeps i)) (w .held .holds .profit-is i l)) ∙ rw (w .held .holds .counted) (earns-best (w .held .line) (stands {y = prices-of dist} (λ i l. refl) (λ j l. refl)))
 
       pub falling : Falling (nodes - 1) dist
       falling = record {
@@ -88,9 +89,8 @@ module _ {nodes k count : ℕ} {limits a b profits : List ℕ} (w : CanPlanLine 
           record {
             cells-upto = omega (arith, can-solve .cells-upto);
             count-upto = can-solve .profits-are .few;
-            k-upto = omega (arith, w .channels-is, w .line .sound .channels-upto);
-            some-cell = real .some-cell;
-            in-row = real .in-row;
+            k-upto = omega (arith, w .channels-is, w .held .line .sound .channels-upto);
+            proper = record { some-cell = real .some-cell; in-row = real .in-row };
             fits = λ j l.
                 let h : j < spans (w .book) = omega (arith, cells-are) in
                 omega (
@@ -98,7 +98,7 @@ module _ {nodes k count : ℕ} {limits a b profits : List ℕ} (w : CanPlanLine 
                   w .channels-is,
                   load-same over {x = flag keeps} {x′ = flag keeps} (λ i l. refl) j,
                   stands {x = flag keeps} {y = prices-of dist} (λ i l. refl) (λ i l. refl) .within .holds j h,
-                  w .line .sound .limit-upto j h,
+                  w .held .line .sound .limit-upto j h,
                 );
           }
 
@@ -110,31 +110,31 @@ module _ {nodes k count : ℕ} {limits a b profits : List ℕ} (w : CanPlanLine 
 
         module _ {entries prices : List ℕ} (e : Entered count a b keeps channels entries) (p : Filled (prices-of dist) (nodes - 1) prices) where
           same-set : SameKept count (flag keeps) (kept (at entries))
-          same-set = keeps-are (w .holds) channels-small e
+          same-set = keeps-are (w .held .holds) channels-small e
 
           laid : Laid (w .book) (at entries)
-          laid = goes-its-way (w .holds) channels-small e
+          laid = goes-its-way (w .held .holds) channels-small e
 
           certificate : Certified (w .book) (kept (at entries)) (at prices)
           certificate = stands same-set (λ j l. sym (p .is j l))
 
           rule : byRule (w .book) (at entries) ≡ true
           rule =
-              ruled-rule (w .line) laid
+              ruled-rule (w .held .line) laid
               (subst (λ (n : ℕ). Ruled (rowOf (w .book)) n (kept (at entries)) (channel (at entries))) (w .channels-is)
-              (ruled-same over same-set k (channels-are (w .holds) channels-small e) (h .ruled)))
+              (ruled-same over same-set k (channels-are (w .held .holds) channels-small e) (h .ruled)))
 
           fair : obeys (w .book) (at entries) ≡ true
           unfolding rowOf
-          fair = rule-obeys (w .line) laid (λ j l. rw (load-row (w .line) laid j) (certificate .within .holds j l)) rule
+          fair = rule-obeys (w .held .line) laid (λ j l. rw (load-row (w .held .line) laid j) (certificate .within .holds j l)) rule
 
           pub planned : {earned number : ℕ} → earned ≡ sumOf count keeps profits → number ≡ numberOf count keeps → LinePlanned (w .book) (Planned earned number) entries prices
           unfolding clamp
           planned earns counts =
-              let accepted = certified-yes (w .line) (at entries) fair certificate in
+              let accepted = certified-yes (w .held .line) (at entries) fair certificate in
               record {
-                says = ap₂ Planned (earns ∙ sum-is (w .holds) channels-small e) (counts ∙ number-is (w .holds) channels-small e);
-                best-plan = yes-best (w .line) (at entries) (at prices) accepted;
+                says = ap₂ Planned (earns ∙ sum-is (w .held .holds) channels-small e) (counts ∙ number-is (w .held .holds) channels-small e);
+                best-plan = yes-best (w .held .line) (at entries) (at prices) accepted;
                 by-rule = rule;
                 prices-upto = λ j l. omega (arith, p .is j (omega (arith, cells-are)));
                 accepted = accepted;

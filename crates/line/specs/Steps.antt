@@ -37,11 +37,13 @@ pub record CanSolve (cells count : ℕ) (limits a b profits : List ℕ) : Type 0
   pub ends-differ : (i : ℕ) → i < count → at a i ≡ at b i → ⊥
   pub limits-upto : (j : ℕ) → j < cells → at limits j ≤ 1000
 
--- the candidates, and what the row planner left: `free` was the room before it kept any
-pub record Solves (cells count : ℕ) (limits a b profits lo hi : List ℕ) (cost : List ℤ) (kept : List Bool) (room : List ℕ) (dist : List ℤ) : Type 0 where
+-- the candidates, and what the row planner left: `free` was the room before it kept any, `room` is what is left of it
+pub record Solves (cells count : ℕ) (limits a b profits lo hi : List ℕ) (kept : List Bool) (dist : List ℤ) : Type 0 where
+  pub cost : List ℤ
   pub candidates : Candidates count a b profits lo hi cost
   pub free : List ℕ
   pub free-is : Filled (at limits) cells free
+  pub room : List ℕ
   pub standing : Standing (at free) count cells count lo hi cost kept room dist
 
 -- from one distance to the next it falls, if it does not stay

@@ -105,40 +105,26 @@ pub fn solve(
     profit: &[usize; 256],
     lo: &mut [usize; 256],
     hi: &mut [usize; 256],
-    cost: &mut [i64; 256],
-    room: &mut [usize; 128],
     kept: &mut [bool; 256],
     dist: &mut [i64; 128],
 )
     requires { ⌜ CanSolve cells count (now limits) (now a) (now b) (now profit) ⌝ }
-    ensures { λ r. ⌜ Solves cells count (now (limits .entry)) (now (a .entry)) (now (b .entry)) (now (profit .entry)) (now (lo .exit)) (now (hi .exit)) (now (cost .exit)) (now (kept .exit)) (now (room .exit)) (now (dist .exit)) ⌝ }
+    ensures { λ r. ⌜ Solves cells count (now (limits .entry)) (now (a .entry)) (now (b .entry)) (now (profit .entry)) (now (lo .exit)) (now (hi .exit)) (now (kept .exit)) (now (dist .exit)) ⌝ }
 {
+    let mut cost = [0i64; 256];
+    let mut room = [0usize; 128];
     let mut order = [0usize; 256];
     let mut place = [0usize; 256];
     let mut los = [0usize; 256];
     let mut his = [0usize; 256];
     let mut costs = [0i64; 256];
-    let mut keeps = [false; 256];
-    lay(count, a, b, profit, lo, hi, cost);
-    make_room(cells, limits, room);
+    let mut keep = [false; 256];
+    lay(count, a, b, profit, lo, hi, &mut cost);
+    make_room(cells, limits, &mut room);
     order::ordered(count, lo, hi, profit, &mut order, &mut place);
-    arrange(count, &order, lo, hi, cost, &mut los, &mut his, &mut costs);
-    planrow::plan_row(cells, count, &los, &his, &costs, &mut keeps, room, dist);
-    put_back(count, &place, &keeps, kept);
-}
-
-// Where the price of each cell goes: on a line, cell j is span j.
-pub fn places(cells: usize, place: &mut [usize; 128])
-    requires { ⌜ cells ≤ 63 ⌝ }
-    ensures { λ r. ⌜ Filled (λ j. j) cells (now (place .exit)) ⌝ }
-{
-    // tells how many places there are
-    let all = &place[..];
-    let mut j = 0;
-    while j < cells {
-        place[j] = j;
-        j += 1;
-    }
+    arrange(count, &order, lo, hi, &cost, &mut los, &mut his, &mut costs);
+    planrow::plan_row(cells, count, &los, &his, &costs, &mut keep, &mut room, dist);
+    put_back(count, &place, &keep, kept);
 }
 
 // The price of each cell, at its place: what the distance falls by along the cell, and no more than 1,000,000.

@@ -42,8 +42,6 @@ pub fn best_earnings(
 {
     let mut lo = [0usize; 256];
     let mut hi = [0usize; 256];
-    let mut cost = [0i64; 256];
-    let mut room = [0usize; 128];
     let mut kept = [false; 256];
     let mut dist = [0i64; 128];
     let spans = nodes - 1;
@@ -56,8 +54,6 @@ pub fn best_earnings(
         profit,
         &mut lo,
         &mut hi,
-        &mut cost,
-        &mut room,
         &mut kept,
         &mut dist,
     );
@@ -80,8 +76,6 @@ pub fn plan_line(
 {
     let mut lo = [0usize; 256];
     let mut hi = [0usize; 256];
-    let mut cost = [0i64; 256];
-    let mut room = [0usize; 128];
     let mut kept = [false; 256];
     let mut dist = [0i64; 128];
     let mut channel = [0usize; 256];
@@ -98,8 +92,6 @@ pub fn plan_line(
         profit,
         &mut lo,
         &mut hi,
-        &mut cost,
-        &mut room,
         &mut kept,
         &mut dist,
     );
@@ -112,7 +104,8 @@ pub fn plan_line(
         };
     }
     entries::enter(count, a, b, &kept, &channel, &mut entries);
-    cells::places(cells, &mut place);
+    // cell j is span j, so its price goes to place j
+    order::by_number(cells, &mut place);
     cells::price(cells, &dist, &place, &mut prices[..cells]);
     let answer = Solved::Planned {
         earned: entries::earned(count, &kept, profit),

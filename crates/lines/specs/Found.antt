@@ -24,7 +24,7 @@ module _
     pub channel-found : (i : ℕ) → i < count book → kept plan i ≡ true → channel plan i ≤ book .channels
     unfolding rowOf
     channel-found =
-        found (rowOf book) (book .channels) (kept plan) (channel plan) (within-row on laid within) (proper on (kept plan)) (on .sound .limit-upto)
+        found (rowOf book) (book .channels) (kept plan) (channel plan) (within-row on laid within) (proper on) (on .sound .limit-upto)
         (rule-ruled on laid rule)
 
     differ :
@@ -33,7 +33,7 @@ module _
     unfolding rowOf
     differ i j s li lj ls oi oj ne =
         let meets = all-three _ _ _ (sym (share-meet on laid i j li lj) ∙ share-of book plan i j s ls oi oj) in
-        told-apart (rowOf book) (book .channels) (kept plan) (channel plan) (within-row on laid within) (proper on (kept plan)) (on .sound .limit-upto)
+        told-apart (rowOf book) (book .channels) (kept plan) (channel plan) (within-row on laid within) (proper on) (on .sound .limit-upto)
         (rule-ruled on laid rule) i j li lj (meets .0) (meets .1) ne (meets .2)
 
     pub rule-obeys : obeys book plan ≡ true

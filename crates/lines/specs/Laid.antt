@@ -12,7 +12,7 @@ use Rattle.rules.specs.Ways.{lineWay, crossed}
 use Rattle.rules.specs.Plans.{Plan, kept, way, channel, earnings, over, load, share, obeys}
 use Rattle.rules.specs.Channels.{lowerEnd, earlier, heldBefore, byRule}
 use Rattle.row.specs.Row
-use Rattle.row.specs.Row.{covers, worth, Within, before, meet}
+use Rattle.row.specs.Row.{covers, worth, WithinLimits, before, meet}
 use Rattle.row.specs.Channels.{Ruled}
 use Rattle.lines.specs.RowOf.{rowOf}
 use Rattle.lines.specs.Line.{Line}
@@ -52,7 +52,7 @@ module _ {book : Book} {plan : Plan} (on : Line book) (laid : Laid book plan) wh
   unfolding load Row.load rowOf
   load-row s = Σ-ext (count book) _ _ (λ i l. ap bit (over-covers i s l))
 
-  pub within-row : ((s : ℕ) → s < spans book → load book plan s ≤ limit book s) → Within (rowOf book) (kept plan)
+  pub within-row : ((s : ℕ) → s < spans book → load book plan s ≤ limit book s) → WithinLimits (rowOf book) (kept plan)
   unfolding rowOf
   within-row h = record { holds = λ s l. rw (← load-row s) (h s l) }
 

@@ -2,6 +2,7 @@ pub mod RowOf
 pub mod Line
 pub mod Obeys
 pub mod Ways
+pub mod HeldLine
 pub mod Laid
 pub mod Sets
 pub mod Ceiling

@@ -1,7 +1,7 @@
 -- On a line a request has one way, and it crosses the spans between the two ends, which are the cells that the request is over in the row.
 -- Way 1 goes up from a and way 2 up from b, and the one that exists is the one that begins at the lower end. Assumes nothing.
 use mathlib.Core.Path.{_≡_}
-use mathlib.Core.Bool.{Bool, false, _&&_, and-true, and-false, or-false}
+use mathlib.Core.Bool.{false, _&&_, and-true, and-false, or-false}
 use mathlib.Core.Logic.{⊎-elim}
 use Prim.Native.Nat.{ℕ, _-_, _≤_, _<_}
 use native.Mathlib.Omega.{arith}
@@ -10,8 +10,7 @@ use lib.Dec.{leb, ltb, eqb}
 use Rattle.sums.specs.Each.{less-or-not}
 use Rattle.book.specs.Book.{Book, isRing, spansOf, spans, count, endA, endB}
 use Rattle.rules.specs.Ways.{upward, crosses, wayExists, lineWay, crossed}
-use Rattle.row.specs.Row.{covers}
-use Rattle.row.specs.Channels.{Proper}
+use Rattle.row.specs.Row.{Proper, covers}
 use Rattle.lines.specs.RowOf.{rowOf}
 use Rattle.lines.specs.Line.{Line}
 
@@ -57,10 +56,10 @@ module _ {book : Book} (on : Line book) where
       down : endB book i ≤ endA book i → crossed book i s ≡ covers (rowOf book) i s
       down h = rw (le-ltb _ _ h, lt-ltb _ _ (b-lower i l h)) (between _ _ _ _ (omega arith) (omega arith))
 
-  -- every candidate is a real interval of the row, so those of any kept set are
-  pub proper : (x : ℕ → Bool) → Proper (rowOf book) x
+  -- every candidate is a real interval of the row
+  pub proper : Proper (rowOf book) (rowOf book .count)
   unfolding rowOf
-  proper x = record {
-    some-cell = λ i l e. omega (arith, on .sound .ends-differ i l);
-    in-row = λ i l e. omega (arith, line-spans, on .sound .a-node i l, on .sound .b-node i l);
+  proper = record {
+    some-cell = λ i l. omega (arith, on .sound .ends-differ i l);
+    in-row = λ i l. omega (arith, line-spans, on .sound .a-node i l, on .sound .b-node i l);
   }

@@ -4,12 +4,9 @@ use mathlib.Core.List.{List}
 use Prim.Native.Nat.{ℕ, _+_, _<_}
 use native.Mathlib.Omega.{arith}
 use borrow.Author.Count.{below-more}
-use lib.ListN.{getD}
+use Rattle.sums.specs.At.{at}
 use Rattle.sums.specs.Filled.{Filled}
 use Rattle.sums.specs.Permuted.{Back}
-
-abbrev pub at : List ℕ → ℕ → ℕ
-at xs i = getD xs i 0
 
 -- `place` leads back from wherever `order` leads, and the other way round
 pub record Order (count : ℕ) (order place : List ℕ) : Type 0 where

@@ -14,6 +14,7 @@ use Rattle.book.specs.Reading.{done, refused, andThen}
 use Rattle.rules.specs.Plans.{earnings, numberKept}
 use Rattle.rules.specs.Cuts.{cut, cutShown}
 use Rattle.rules.specs.Operations.{placesShort, plannableIn}
+use Rattle.lines.specs.Line.{Line}
 use Rattle.lines.specs.Ways.{line-spans}
 use Rattle.rings.specs.CutLine.{ring-spans}
 use Rattle.rings.specs.Never15.{line-plan, ring-plan}
@@ -59,19 +60,19 @@ on-line {entries} w made says =
       says = says ∙ ap (λ (s : Solved). answered s 65535) (made .says);
       planned = record {
         fair = made .best-plan .fair;
-        best-there = rw (line-plan book (w .line .line)) (made .best-plan);
-        channels = rw (line-plan book (w .line .line)) (made .by-rule);
+        best-there = rw (line-plan book (w .held .line .line)) (made .best-plan);
+        channels = rw (line-plan book (w .held .line .line)) (made .by-rule);
         earned-is = refl;
         number-is = refl;
-        cut-is = sym (line-shown book (w .line .line));
+        cut-is = sym (line-shown book (w .held .line .line));
       };
       priced = λ e. record { small = made .prices-upto; accepted = made .accepted };
-      sound = w .line .sound;
-      shape-is = sym (w .line .line);
-      spans-is = omega (arith, line-spans (w .line), w .nodes-is);
-      count-is = w .holds .counted;
-      a-is = λ i h. w .holds .a-is i (omega (arith, w .holds .counted));
-      b-is = λ i h. w .holds .b-is i (omega (arith, w .holds .counted));
+      sound = w .held .line .sound;
+      shape-is = sym (w .held .line .line);
+      spans-is = w .held .spans-is;
+      count-is = w .held .holds .counted;
+      a-is = λ i h. w .held .holds .a-is i (omega (arith, w .held .holds .counted));
+      b-is = λ i h. w .held .holds .b-is i (omega (arith, w .held .holds .counted));
     }
 
 -- the ring planner's answer is the plan of the ring; a ring has no prices
@@ -122,12 +123,11 @@ held-long t plan = record { short = λ e. let z : _≡_ {A = ℕ} 0 1 = cc in ab
 abbrev pub held-line :
     {net : Network} {n : ℕ} {limits a b profits : List ℕ} → net .shape ≡ 1 → HeldBook net n limits a b profits → CanPlanLine (net .nodes) (net .channels) n limits a b profits
 held-line e held =
+    let on-line : Line (held .book) = record { line = held .shape-is ∙ e; sound = held .sound } in
     record {
       book = held .book;
-      line = record { line = held .shape-is ∙ e; sound = held .sound };
-      nodes-is = sym (held .nodes-is);
+      held = record { line = on-line; spans-is = omega (arith, held .nodes-is, line-spans on-line); holds = held .holds };
       channels-is = sym (held .channels-is);
-      holds = held .holds;
     }
 
 abbrev pub held-ring :

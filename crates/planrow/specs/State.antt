@@ -6,6 +6,7 @@ use mathlib.Core.Path.{_≡_}
 use Prim.Native.Nat.{ℕ, suc, _+_, _*_, _-_, _≤_, _<_}
 use lib.ListN.{getD, length, set}
 use lib.IntN.{ℤ, pos}
+pub use Rattle.sums.specs.At.{at, flag}
 use Rattle.signed.specs.Parts.{up, dn}
 use Rattle.row.specs.Row.{Row}
 use Rattle.flow.specs.Balanced.{Proper, Deep, Balanced}
@@ -16,12 +17,6 @@ use Rattle.flow.specs.Ends.{Reached, Unreached}
 use Rattle.flow.specs.Raise.{raised}
 
 -- ---- arrays as functions
-
-abbrev pub at : List ℕ → ℕ → ℕ
-at xs i = getD xs i 0
-
-abbrev pub flag : List Bool → ℕ → Bool
-flag xs i = getD xs i false
 
 -- how far below 0 the i-th number lies
 abbrev pub depth : List ℤ → ℕ → ℕ

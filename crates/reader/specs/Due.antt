@@ -10,10 +10,10 @@ use Rattle.reader.specs.Records.{networkAt, spanAt, requestAt}
 
 -- where each may stand: the network is record 0, the spans are among records 1 to 64, present or not, and a request is a whole record of the
 -- part that follows the spans
-abbrev pub Placed : List ℕ → ℕ → Due → Type 0
-Placed f at Network = at ≡ 0
-Placed f at (Span channels) = (0 < at) × (at ≤ 64)
-Placed f at (Request before nodes) = (16 * at + 16 ≤ length f) × (before ≤ 65)
+abbrev pub MayStand : List ℕ → ℕ → Due → Type 0
+MayStand f at Network = at ≡ 0
+MayStand f at (Span channels) = (0 < at) × (at ≤ 64)
+MayStand f at (Request before nodes) = (16 * at + 16 ≤ length f) × (before ≤ 65)
 
 abbrev pub recordAt : List ℕ → ℕ → Due → Reading
 recordAt f at Network = networkAt f

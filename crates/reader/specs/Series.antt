@@ -69,20 +69,20 @@ pub record Series (A B : Type 0) : Type 0 where
   pub wants : ℕ → B
 
 -- the first n entries are as they should be
-abbrev pub Filled : {A B : Type 0} → Series A B → List A → ℕ → Type 0
-Filled s l n = (i : ℕ) → i < n → s .means (getD l i (s .empty)) ≡ s .wants i
+abbrev pub AllMeant : {A B : Type 0} → Series A B → List A → ℕ → Type 0
+AllMeant s l n = (i : ℕ) → i < n → s .means (getD l i (s .empty)) ≡ s .wants i
 
 -- after n records
 pub record SoFar {A B : Type 0} (s : Series A B) (l : List A) (n : ℕ) : Type 0 where
   pub sized : length l ≡ s .room
   pub got : AllGot (s .says) n
-  pub filled : Filled s l n
+  pub filled : AllMeant s l n
 
 -- at the end
 pub record InList {A B : Type 0} (s : Series A B) (n : ℕ) (network : Network) (answer : Answer) (l : List A) : Type 0 where
   pub sized : length l ≡ s .room
   pub turn : InTurn (s .says) n network answer
-  pub filled : accepted answer ≡ true → Filled s l n
+  pub filled : accepted answer ≡ true → AllMeant s l n
 
 module _ {A B : Type 0} (s : Series A B) where
   pub so-far-none : (l : List A) → length l ≡ s .room → SoFar s l 0
@@ -111,4 +111,4 @@ module _ {A B : Type 0} (s : Series A B) where
       }
 
   pub all-read : (l : List A) (n k : ℕ) (network : Network) → SoFar s l k → k ≡ n → InList s n network (answer.Accepted network) l
-  all-read l n k network p e = record { sized = p .sized; turn = (refl, subst (AllGot (s .says)) e (p .got)); filled = λ t. subst (Filled s l) e (p .filled) }
+  all-read l n k network p e = record { sized = p .sized; turn = (refl, subst (AllGot (s .says)) e (p .got)); filled = λ t. subst (AllMeant s l) e (p .filled) }

@@ -26,7 +26,7 @@ use Rattle.reader.specs.declared.requests.Orders.{Orders}
 use Rattle.reader.specs.Says.{Reads, Unread, noRequest, plain, bookFrom, outcomeOf}
 use Rattle.reader.specs.Parts.{a-part, b-part, profit-part, records-part, part-is}
 use Rattle.reader.specs.Records.{networkIn, networkAt}
-use Rattle.reader.specs.Series.{AllGot, InTurn, Filled, accepted}
+use Rattle.reader.specs.Series.{AllGot, InTurn, AllMeant, accepted}
 use Rattle.reader.specs.Spans.{SpansRead, spanSeries}
 use Rattle.reader.specs.Orders.{OrdersRead, requestSeries}
 use Rattle.reader.specs.WaysOut.{Headed, headed, got-network, spanSays, requestSays, part-there, afterSpans, spans-refused, requests-refused, all-clean}
@@ -51,7 +51,7 @@ made-table means empty wants l n h p =
 limits-are :
     (f limits : List ℕ)
     → spansIn f ≤ length limits
-    → Filled (spanSeries f (channelsIn f)) limits (spansIn f)
+    → AllMeant (spanSeries f (channelsIn f)) limits (spansIn f)
     → take (spansIn f) limits ≡ table (spansIn f) (λ s. limitIn f (1 + s))
 limits-are f limits h p = sym (map-id (take (spansIn f) limits)) ∙ made-table (λ limit. limit) 0 (λ s. limitIn f (1 + s)) limits (spansIn f) h p
 
@@ -62,7 +62,7 @@ request-part f b i = rw (a-part f b i, b-part f b i, profit-part f b i)
 requests-are :
     (f : List ℕ) (b n : ℕ) (requests : List Request)
     → n ≤ length requests
-    → Filled (requestSeries (drop (start b) f) b (nodesIn f)) requests n
+    → AllMeant (requestSeries (drop (start b) f) b (nodesIn f)) requests n
     → map plain (take n requests) ≡ table n (λ i. requestOf f (b + i))
 requests-are f b n requests h p =
     made-table plain noRequest (λ i. requestOf f (b + i)) requests n h (λ i k. p i k ∙ request-part f b i)
@@ -70,9 +70,9 @@ requests-are f b n requests h p =
 book-is :
     (f limits : List ℕ) (requests : List Request)
     → spansIn f ≤ length limits
-    → Filled (spanSeries f (channelsIn f)) limits (spansIn f)
+    → AllMeant (spanSeries f (channelsIn f)) limits (spansIn f)
     → records (afterSpans f) ≤ length requests
-    → Filled (requestSeries (afterSpans f) (1 + spansIn f) (nodesIn f)) requests (records (afterSpans f))
+    → AllMeant (requestSeries (afterSpans f) (1 + spansIn f) (nodesIn f)) requests (records (afterSpans f))
     → bookFrom (networkIn f) limits (records (afterSpans f)) requests ≡ bookOf f
 unfolding bookFrom bookOf spansIn
 book-is f limits requests hl pl hr pr =
@@ -147,7 +147,7 @@ module _ (f : List ℕ) (network : Network) (n : ℕ) (so-far : Begun f network 
         by :
             (a : Answer)
             → InTurn (requestSays f) (records (afterSpans f)) (networkIn f) a
-            → (accepted a ≡ true → Filled (requestSeries (afterSpans f) b (nodesIn f)) (orders .requests) (records (afterSpans f)))
+            → (accepted a ≡ true → AllMeant (requestSeries (afterSpans f) b (nodesIn f)) (orders .requests) (records (afterSpans f)))
             → (accepted a ≡ true → orders .count ≡ records (afterSpans f))
             → outcomeOf a (limits .limits) (orders .count) (orders .requests) ≡ reading f
         by (Accepted t) w filled all =

@@ -2,7 +2,7 @@
 ghost use mathlib.Core.Path.{_≡_};
 ghost use Prim.Native.Nat.{_+_, _*_, _≤_, _<_};
 ghost use lib.ListN.{length};
-ghost use Rattle.reader.specs.Due.{Placed, recordAt};
+ghost use Rattle.reader.specs.Due.{MayStand, recordAt};
 ghost use Rattle.reader.specs.Records as R;
 ghost use Rattle.reader.specs.Series.{refusalOf};
 use crate::Network;
@@ -96,7 +96,7 @@ fn request_at(part: &[u8], i: usize, before: usize, nodes: usize) -> Reading
 
 // The record at a position of a slice, as what is due there.
 pub fn record_at(src: &[u8], at: usize, due: Due) -> Reading
-    requires { ⌜ Placed (now src) at due ⌝ }
+    requires { ⌜ MayStand (now src) at due ⌝ }
     ensures { λ r. ⌜ r ≡ recordAt (now (src .entry)) at due ⌝ }
 {
     match due {

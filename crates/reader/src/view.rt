@@ -1,6 +1,6 @@
 // The order file, or a part of it, as reading sees it: a view that remembers how far it has read.
 ghost use mathlib.Core.Path.{_≡_};
-ghost use Rattle.reader.specs.Due.{Placed, recordAt};
+ghost use Rattle.reader.specs.Due.{MayStand, recordAt};
 use crate::Reading;
 use crate::records;
 use crate::records::Due;
@@ -20,7 +20,7 @@ pub fn view_from<'a>(src: &'a [u8], at: usize) -> View<'a>
 
 // The next record, as what is due there.
 pub fn next<'a>(view: View<'a>, due: Due) -> Reading
-    requires { ⌜ Placed (now (view .src)) (view .at) due ⌝ }
+    requires { ⌜ MayStand (now (view .src)) (view .at) due ⌝ }
     ensures { λ r. ⌜ r ≡ recordAt (now (view .entry .src)) (view .entry .at) due ⌝ }
 {
     records::record_at(view.src, view.at, due)
@@ -28,7 +28,7 @@ pub fn next<'a>(view: View<'a>, due: Due) -> Reading
 
 // The record at a position, read through a view that is made for it: what the reading loops call (docs/DECISIONS.md says why no loop keeps one).
 pub fn through_view(src: &[u8], at: usize, due: Due) -> Reading
-    requires { ⌜ Placed (now src) at due ⌝ }
+    requires { ⌜ MayStand (now src) at due ⌝ }
     ensures { λ r. ⌜ r ≡ recordAt (now (src .entry)) at due ⌝ }
 {
     next(view_from(src, at), due)

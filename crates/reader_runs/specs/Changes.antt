@@ -39,7 +39,7 @@ abbrev pub changed : ℕ → List ℕ
 changed k = set book (getD at k 0) (getD value k 0)
 
 -- what the readings come to
-pub record Right : Type 0 where
+pub record ReadRight : Type 0 where
   pub whole : isDone (reading book) ≡ true
   pub without-request : isDone (reading (take 32 book)) ≡ true
   pub without-span : isRefused (reading (take 16 book)) 5 1 ≡ true
@@ -48,7 +48,7 @@ pub record Right : Type 0 where
   pub inside : (k : ℕ) → k < 21 → getD at k 0 < 48
   pub change : (k : ℕ) → k < 21 → isRefused (reading (changed k)) (getD number k 0) (getD place k 0) ≡ true
 
-pub right : Right
+pub right : ReadRight
 unfolding isRefused isDone reading due faultyRecord fault rows seek each records start present kindIn markIn numberIn shapeIn nodesIn channelsIn spansIn limitIn aIn bIn profitIn countWrong networkWrong nodesWrong channelsWrong spanWrong markWrong limitWrong tooMany requestWrong endsWrong profitWrong two four blank spansOf
 right =
     record {

@@ -13,7 +13,6 @@ use Rattle.book.specs.Columns.{at}
 use Rattle.rules.specs.Prices.{ceiling}
 use Rattle.rules.specs.Cuts.{steps, spanAt, cutBest}
 use Rattle.rings.specs.Turn.{span-below, place-of-span}
-use Rattle.lines.specs.Ways.{line-spans}
 use Rattle.ceiling.specs.PricedLine.{PricedLine}
 use Rattle.ceiling.specs.Above.{best-upto-ceiling}
 use Rattle.line.specs.Placing.{OneToOne, LowPrices}
@@ -59,7 +58,7 @@ module _ {nodes channels count : ℕ} {limits a b profits : List ℕ} (w : CanPl
         let v = cut-plannable w j cut turned from to in
         record {
           book = v .book;
-          held = record { line = v .line; spans-is = omega (arith, v .nodes-is, line-spans (v .line)); holds = v .holds };
+          held = v .held;
           price-upto = λ t l. omega (arith, priced .is t l, low .upto (spanAt nodes j t));
         }
 
@@ -67,4 +66,4 @@ module _ {nodes channels count : ℕ} {limits a b profits : List ℕ} (w : CanPl
     unfolding cut-priced
     cut-bounded says =
         let v = cut-plannable w j cut turned from to in
-        omega (arith, cut-best w j cut turned from to, says cut-priced, best-upto-ceiling (v .line) (at prices))
+        omega (arith, cut-best w j cut turned from to, says cut-priced, best-upto-ceiling (v .held .line) (at prices))

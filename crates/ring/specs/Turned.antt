@@ -13,6 +13,7 @@ use Rattle.rules.specs.Channels.{byRule}
 use Rattle.rules.specs.Best.{best}
 use Rattle.rules.specs.Cuts as Cuts
 use Rattle.rules.specs.Cuts.{steps, spanAt, cutLine, cutBest}
+use Rattle.lines.specs.Ways.{line-spans}
 use Rattle.rings.specs.CutLine.{ring-spans, cut-line}
 use Rattle.rings.specs.Choice.{cut-in}
 use Rattle.rings.specs.Fair as F
@@ -60,12 +61,11 @@ module _ {nodes channels count : ℕ} {limits a b profits : List ℕ} (w : CanPl
       pub cut-plannable : CanPlanLine nodes channels count limits′ a′ b′ profits
       unfolding cutLine
       cut-plannable =
+          let on-line = cut-line (w .ring) j (omega (arith, w .nodes-is, ring-spans (w .ring))) in
           record {
             book = cutLine (w .book) j;
-            line = cut-line (w .ring) j (omega (arith, w .nodes-is, ring-spans (w .ring)));
-            nodes-is = w .nodes-is;
+            held = record { line = on-line; spans-is = omega (arith, w .nodes-is, line-spans on-line); holds = turned-line };
             channels-is = w .channels-is;
-            holds = turned-line;
           }
 
       pub cut-best : cutBest (w .book) j ≡ best (cut-plannable .book)

@@ -14,7 +14,7 @@ use Rattle.rings.specs.Ring.{Ring}
 use Rattle.rings.specs.CutLine.{ring-spans}
 
 -- no line earns more than that of cut j, and those of lower cuts earn less
-pub record Chosen (book : Book) (j : ℕ) : Type 0 where
+pub record LowestBestCut (book : Book) (j : ℕ) : Type 0 where
   pub in-ring : j < spans book
   pub greatest-there : (i : ℕ) → i < spans book → cutBest book i ≤ cutBest book j
   pub lowest : (i : ℕ) → i < j → cutBest book i < cutBest book j
@@ -43,13 +43,13 @@ module _ {book : Book} (on : Ring book) where
       let w = greatest (spans book) (cutBest book) (omega (arith, ring-spans on, on .sound .nodes-from)) in
       ⊎-elim (λ l. l) (λ l. absurd (of-yes (sym (found .passed (w .0) (omega arith) (omega (arith, w .1 .below))) ∙ tops-of book (w .0) (w .1 .most)))) (less-or-not (cut book) (spans book))
 
-  pub cut-chosen : Chosen book (cut book)
+  pub cut-chosen : LowestBestCut book (cut book)
   cut-chosen =
       let most = tops-at book (cut book) (found .passes (omega (arith, cut-in))) in
       record { in-ring = cut-in; greatest-there = most; lowest = λ i l. beaten book i (cut book) (found .passed i (omega arith) l) most }
 
   -- the words leave one cut
-  pub cut-once : (j : ℕ) → Chosen book j → cut book ≡ j
+  pub cut-once : (j : ℕ) → LowestBestCut book j → cut book ≡ j
   unfolding cut
   cut-once j c = first-is (spans book) (tops book) j (record { from = omega arith; upto = omega (arith, c .in-ring); passed = λ i l h. lower i h; passes = λ h. tops-of book j (c .greatest-there) })
     where

@@ -14,7 +14,7 @@ use Rattle.rules.specs.Ways.{upward, crosses, wayExists, lineWay}
 use Rattle.rules.specs.Cuts.{steps, spanAt, cutLine}
 use Rattle.lines.specs.Ways.{line-way}
 use Rattle.rings.specs.Ring.{Ring}
-use Rattle.rings.specs.Turn.{Placed, steps-placed, place-below, span-below, place-of-span}
+use Rattle.rings.specs.Turn.{StepsTo, steps-lead, place-below, span-below, place-of-span}
 use Rattle.rings.specs.CutLine.{ring-spans, cut-count, cut-a, cut-b, cut-line}
 
 -- ---- what `upward` means
@@ -47,7 +47,7 @@ fails {t} h = ⊎-elim (λ e. absurd (h e)) (λ e. e) (decided t)
 -- ---- going up the ring and up the line, by places p, q and r of u, v and s
 
 module _ (n j u v s p q r : ℕ) (cut : j < n) (hu : u < n) (hv : v < n) (hs : s < n)
-    (pu : Placed n (j + 1) u p) (pv : Placed n (j + 1) v q) (ps : Placed n (j + 1) s r) (ahead : p < q)
+    (pu : StepsTo n (j + 1) u p) (pv : StepsTo n (j + 1) v q) (ps : StepsTo n (j + 1) s r) (ahead : p < q)
   where
     turn-in : Up u v s → (p ≤ r) × (r < q)
     turn-in up = go (pu .case) (pv .case) (ps .case) up
@@ -84,8 +84,8 @@ module _ (n j u v s p q r : ℕ) (cut : j < n) (hu : u < n) (hv : v < n) (hs : s
 -- ---- ways
 
 module _ (n j u v : ℕ) (cut : j < n) (hu : u < n) (hv : v < n) (ahead : steps n (j + 1) u < steps n (j + 1) v) where
-  placed : (x : ℕ) → Placed n (j + 1) x (steps n (j + 1) x)
-  placed x = steps-placed n (j + 1) x (omega arith)
+  placed : (x : ℕ) → StepsTo n (j + 1) x (steps n (j + 1) x)
+  placed x = steps-lead n (j + 1) x (omega arith)
 
   up-the-line : (t : ℕ) → t + 1 < n → upward u v (spanAt n j t) ≡ upward (steps n (j + 1) u) (steps n (j + 1) v) t
   up-the-line t h =

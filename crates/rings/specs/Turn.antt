@@ -9,13 +9,13 @@ use borrow.Author.Tests.{le-leb, lt-leb}
 use Rattle.sums.specs.Each.{less-or-not}
 use Rattle.rules.specs.Cuts.{steps, spanAt}
 
--- up from u to v, or round past the last node
-pub record Placed (n u v p : ℕ) : Type 0 where
+-- p steps lead from u up to v, or round past the last node
+pub record StepsTo (n u v p : ℕ) : Type 0 where
   pub case : ((u ≤ v) × (p + u ≡ v)) ⊎ ((v < u) × (p + u ≡ v + n))
 
-pub steps-placed : (n u v : ℕ) → u ≤ n → Placed n u v (steps n u v)
+pub steps-lead : (n u v : ℕ) → u ≤ n → StepsTo n u v (steps n u v)
 unfolding steps
-steps-placed n u v h =
+steps-lead n u v h =
     record {
       case =
           ⊎-elim
@@ -41,14 +41,14 @@ span-stands n j t =
 
 module _ (n j : ℕ) (cut : j < n) where
   pub place-below : (v : ℕ) → v < n → steps n (j + 1) v < n
-  place-below v h = ⊎-elim (λ w. omega (arith, w .1)) (λ w. omega (arith, w .1, w .0)) (steps-placed n (j + 1) v (omega arith) .case)
+  place-below v h = ⊎-elim (λ w. omega (arith, w .1)) (λ w. omega (arith, w .1, w .0)) (steps-lead n (j + 1) v (omega arith) .case)
 
   pub places-differ : (u v : ℕ) → u < n → v < n → steps n (j + 1) u ≡ steps n (j + 1) v → u ≡ v
   places-differ u v hu hv e =
       ⊎-elim
-      (λ w. ⊎-elim (λ x. omega (arith, w .1, x .1)) (λ x. omega (arith, w .1, w .0, x .1, x .0)) (steps-placed n (j + 1) v (omega arith) .case))
-      (λ w. ⊎-elim (λ x. omega (arith, w .1, w .0, x .1, x .0)) (λ x. omega (arith, w .1, x .1)) (steps-placed n (j + 1) v (omega arith) .case))
-      (steps-placed n (j + 1) u (omega arith) .case)
+      (λ w. ⊎-elim (λ x. omega (arith, w .1, x .1)) (λ x. omega (arith, w .1, w .0, x .1, x .0)) (steps-lead n (j + 1) v (omega arith) .case))
+      (λ w. ⊎-elim (λ x. omega (arith, w .1, w .0, x .1, x .0)) (λ x. omega (arith, w .1, x .1)) (steps-lead n (j + 1) v (omega arith) .case))
+      (steps-lead n (j + 1) u (omega arith) .case)
 
   pub span-below : (t : ℕ) → t + 1 < n → spanAt n j t < n
   span-below t h = ⊎-elim (λ w. omega (arith, w .1)) (λ w. omega (arith, w .1, w .0)) (span-stands n j t .case)
@@ -56,8 +56,8 @@ module _ (n j : ℕ) (cut : j < n) where
   pub place-of-span : (t : ℕ) → t + 1 < n → steps n (j + 1) (spanAt n j t) ≡ t
   place-of-span t h =
       ⊎-elim
-      (λ w. ⊎-elim (λ x. omega (arith, w .1, w .0, x .1, x .0)) (λ x. omega (arith, w .1, x .1)) (steps-placed n (j + 1) (spanAt n j t) (omega arith) .case))
-      (λ w. ⊎-elim (λ x. omega (arith, w .1, x .1)) (λ x. omega (arith, w .1, w .0, x .1, x .0)) (steps-placed n (j + 1) (spanAt n j t) (omega arith) .case))
+      (λ w. ⊎-elim (λ x. omega (arith, w .1, w .0, x .1, x .0)) (λ x. omega (arith, w .1, x .1)) (steps-lead n (j + 1) (spanAt n j t) (omega arith) .case))
+      (λ w. ⊎-elim (λ x. omega (arith, w .1, x .1)) (λ x. omega (arith, w .1, w .0, x .1, x .0)) (steps-lead n (j + 1) (spanAt n j t) (omega arith) .case))
       (span-stands n j t .case)
 
   pub span-of-place : (s : ℕ) → s < n → (s ≡ j → ⊥) → (steps n (j + 1) s + 1 < n) × (spanAt n j (steps n (j + 1) s) ≡ s)
@@ -65,4 +65,4 @@ module _ (n j : ℕ) (cut : j < n) where
       ⊎-elim
       (λ w. (omega (arith, w .1, w .0), ⊎-elim (λ x. omega (arith, w .1, w .0, x .1, x .0)) (λ x. omega (arith, w .1, x .1)) (span-stands n j (steps n (j + 1) s) .case)))
       (λ w. (omega (arith, w .1, w .0), ⊎-elim (λ x. omega (arith, w .1, x .1)) (λ x. omega (arith, w .1, w .0, x .1, x .0)) (span-stands n j (steps n (j + 1) s) .case)))
-      (steps-placed n (j + 1) s (omega arith) .case)
+      (steps-lead n (j + 1) s (omega arith) .case)

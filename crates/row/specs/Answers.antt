@@ -3,8 +3,8 @@
 use mathlib.Core.Bool.{Bool}
 use Prim.Native.Nat.{ℕ, _≤_}
 use native.Mathlib.Omega.{arith}
-use Rattle.row.specs.Row.{Row, worth, Within, Tight}
+use Rattle.row.specs.Row.{Row, worth, WithinLimits, Tight}
 use Rattle.row.specs.Duality.{weak, tight}
 
-pub same-worth : (row : Row) (x x′ : ℕ → Bool) (y : ℕ → ℕ) → Tight row x y → Within row x′ → worth row x′ ≤ worth row x
+pub same-worth : (row : Row) (x x′ : ℕ → Bool) (y : ℕ → ℕ) → Tight row x y → WithinLimits row x′ → worth row x′ ≤ worth row x
 same-worth row x x′ y t w = omega (arith, weak row x′ y w, tight row x y t)

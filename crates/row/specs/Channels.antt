@@ -12,17 +12,12 @@ use Rattle.sums.specs.Each.{some-at, some-of, some-ext, both, left-of, right-of
 use Rattle.sums.specs.Tests.{when-so}
 use Rattle.sums.specs.Lowest.{lowestFree, lowest-from, lowest-free, lowest-held, lowest-ext}
 use Rattle.sums.specs.Pigeons.{holders}
-use Rattle.row.specs.Row.{Row, covers, load, Within, before, meet, heldBefore}
+use Rattle.row.specs.Row.{Row, Proper, covers, load, WithinLimits, before, meet, heldBefore}
 use Rattle.row.specs.Meets.{covers-of, meet-sym, before-or, before-covers, rank, before-rank}
 
 -- the channels follow the rule: each kept candidate has the lowest channel that no earlier kept one that meets it holds
 pub record Ruled (row : Row) (k : ℕ) (x : ℕ → Bool) (channel : ℕ → ℕ) : Type 0 where
   pub is : (i : ℕ) → i < row .count → x i ≡ true → channel i ≡ lowestFree k (heldBefore row x channel i)
-
--- the candidates that x keeps are real intervals of the row
-pub record Proper (row : Row) (x : ℕ → Bool) : Type 0 where
-  pub some-cell : (i : ℕ) → i < row .count → x i ≡ true → row .lo i < row .hi i
-  pub in-row : (i : ℕ) → i < row .count → x i ≡ true → row .hi i ≤ row .cells
 
 -- ---- what is held
 
@@ -91,12 +86,12 @@ module _ (row : Row) (k : ℕ) (x : ℕ → Bool) (channel : ℕ → ℕ) (ruled
 
 module _
     (row : Row) (k : ℕ) (x : ℕ → Bool) (channel : ℕ → ℕ)
-    (within : Within row x) (proper : Proper row x) (small : (j : ℕ) → j < row .cells → row .limit j ≤ k) (ruled : Ruled row k x channel)
+    (within : WithinLimits row x) (proper : Proper row (row .count)) (small : (j : ℕ) → j < row .cells → row .limit j ≤ k) (ruled : Ruled row k x channel)
   where
     pub found : (i : ℕ) → i < row .count → x i ≡ true → channel i ≤ k
     found i l e =
-        let some : row .lo i < row .hi i = proper .some-cell i l e in
-        let cell : row .lo i < row .cells = omega (arith, proper .in-row i l e) in
+        let some : row .lo i < row .hi i = proper .some-cell i l in
+        let cell : row .lo i < row .cells = omega (arith, proper .in-row i l) in
         omega (arith, at-most-load row k x channel ruled i l e some, within .holds (row .lo i) cell, small (row .lo i) cell)
 
     -- the later of two finds the earlier one's channel held, and its own free

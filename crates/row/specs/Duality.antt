@@ -8,7 +8,7 @@ use Prim.Native.Nat.{ℕ, _+_, _*_, _-_, _≤_, _<_}
 use native.Mathlib.Nat.{mul-comm, mul-le-mul-right, eq-zero-or-pos}
 use native.Mathlib.Omega.{arith}
 use Rattle.sums.specs.Sums.{Σ, when, Σ-ext, Σ-le, Σ-add, Σ-mul, Σ-swap, when-bit, when-and, when-Σ}
-use Rattle.row.specs.Row.{Row, covers, load, worth, cost, ceiling, Within, Tight}
+use Rattle.row.specs.Row.{Row, covers, load, worth, cost, ceiling, WithinLimits, Tight}
 
 -- one candidate: a profit p and a cost c, kept or not
 most : (kept : Bool) (p c : ℕ) → when kept p ≤ p - c + when kept c
@@ -41,7 +41,7 @@ module _ (row : Row) (x : ℕ → Bool) (y : ℕ → ℕ) where
   bounds : Σ (row .count) bound ≡ Σ (row .cells) (λ j. load row x j * y j) + Σ (row .count) (λ i. row .profit i - cost row y i)
   bounds = omega (arith, exchange, Σ-add (row .count) (λ i. row .profit i - cost row y i) (λ i. when (x i) (cost row y i)))
 
-  pub weak : Within row x → worth row x ≤ ceiling row y
+  pub weak : WithinLimits row x → worth row x ≤ ceiling row y
   unfolding worth ceiling
   weak within =
       omega (

@@ -16,6 +16,11 @@ pub record Row : Type 0 where
   pub hi : ℕ → ℕ
   pub profit : ℕ → ℕ
 
+-- the first t candidates are real intervals of the row
+pub record Proper (row : Row) (t : ℕ) : Type 0 where
+  pub some-cell : (i : ℕ) → i < t → row .lo i < row .hi i
+  pub in-row : (i : ℕ) → i < t → row .hi i ≤ row .cells
+
 -- candidate i is over cell j
 unfoldable pub covers : Row → ℕ → ℕ → Bool
 covers row i j = leb (row .lo i) j && ltb j (row .hi i)
@@ -28,7 +33,7 @@ unfoldable pub worth : Row → (ℕ → Bool) → ℕ
 worth row x = Σ (row .count) (λ i. when (x i) (row .profit i))
 
 -- x keeps no cell over its limit
-pub record Within (row : Row) (x : ℕ → Bool) : Type 0 where
+pub record WithinLimits (row : Row) (x : ℕ → Bool) : Type 0 where
   pub holds : (j : ℕ) → j < row .cells → load row x j ≤ row .limit j
 
 -- the prices y of the cells that candidate i is over, and the ceiling of y

@@ -10,7 +10,7 @@ use Rattle.sums.specs.Each.{some-ext}
 use Rattle.sums.specs.Sums.{when, bit, Σ-ext}
 use Rattle.sums.specs.Tests.{when-so}
 use Rattle.sums.specs.Lowest.{lowest-ext}
-use Rattle.row.specs.Row.{Row, covers, load, cost, Within, Tight, before, meet, heldBefore}
+use Rattle.row.specs.Row.{Row, covers, load, cost, WithinLimits, Tight, before, meet, heldBefore}
 use Rattle.row.specs.Channels.{Ruled}
 
 -- the same intervals on the same number of cells
@@ -74,7 +74,7 @@ module _ {row row′ : Row} (s : SameIntervals row row′) where
 -- ---- what looks at limits and profits too
 
 module _ {row row′ : Row} (s : Same row row′) {x x′ : ℕ → Bool} (sets : SameKept (row .count) x x′) where
-  pub within-same : Within row x → Within row′ x′
+  pub within-same : WithinLimits row x → WithinLimits row′ x′
   within-same w = record {
     holds = λ j h.
         let l : j < row .cells = omega arith in

@@ -5,6 +5,7 @@ pub mod Lowest
 pub mod Pigeons
 pub mod Tests
 pub mod Greatest
+pub mod At
 pub mod Filled
 pub mod Turns
 pub mod Permuted

@@ -11,7 +11,8 @@ use Rattle.book.specs.Bytes.{priceIn, entryIn}
 use Rattle.book.specs.Columns.{at}
 use Rattle.rules.specs.Plans.{kept, earnings}
 use Rattle.rules.specs.Prices.{ceiling}
-use Rattle.ceiling.specs.PricedLine.{PricedLine, few, profit-in}
+use Rattle.lines.specs.HeldLine.{few, profit-in}
+use Rattle.ceiling.specs.PricedLine.{PricedLine}
 use Rattle.ceiling.specs.Same.{ceiling-same}
 use Rattle.verdict.specs.Totals.{CanEarn}
 use Rattle.verdict.specs.CanCheck.{CanCheck}

@@ -10,7 +10,7 @@ use Rattle.book.specs.Book as Books
 use Rattle.book.specs.Book.{Book, limit, endA, endB}
 use Rattle.book.specs.Bytes.{priceIn}
 use Rattle.lines.specs.Line.{Line}
-use Rattle.ceiling.specs.PricedLine.{HeldLine}
+use Rattle.lines.specs.HeldLine.{HeldLine}
 
 -- an accepted line, its spans and requests counted, its limits and ends in columns
 pub record Drawn (book : Book) (spans : ℕ) (limits : List ℕ) (count : ℕ) (a b : List ℕ) : Type 0 where

@@ -1,16 +1,16 @@
--- `channels::begin_lists` meets its contract. The numbers from i on are in the lists (`Listed` of specs/Lists): one that is not kept is passed over, any other
+-- `channels::begin_lists` meets its contract. The numbers from i on are in the lists (`ListedByNode` of specs/Lists): one that is not kept is passed over, any other
 -- comes in front of its node's list. Each turn leaves one number fewer. Assumes nothing.
 use mathlib.Core.Logic.{⊎-elim}
 use mathlib.Core.Path.{_≡_}
 use Prim.Native.Nat.{_-_, _≤_, _<_}
 use native.Mathlib.Omega.{arith}
 use Rattle.channels.specs.HandOut.{at}
-use Rattle.channels.specs.Lists.{Listed, listed-pass, listed-more}
+use Rattle.channels.specs.Lists.{ListedByNode, listed-pass, listed-more}
 use Rattle.channels.proofs.begin_lists.Statement.{statement}
 use Rattle.channels.proofs.begin_lists.Tie as tie
 
 abbrev Inv-loop : tie.InvT-loop
-Inv-loop count lo kept first₀ after₀ i₀ first after i = (i ≤ count) × Listed count i lo kept first after
+Inv-loop count lo kept first₀ after₀ i₀ first after i = (i ≤ count) × ListedByNode count i lo kept first after
 
 abbrev μ-loop : tie.MeasureT-loop
 μ-loop count lo kept first₀ after₀ i₀ first after i = i

@@ -6,14 +6,14 @@ use native.Mathlib.Omega.{arith}
 use borrow.Author.Needs.{needs}
 use lib.Seq.{length-take-le}
 use Rattle.channels.specs.declared.Given.the-variants.{All, NoneLeft}
-use Rattle.line.specs.Promised.{can-solve, can-hand-out, channels-small, falling, planned}
+use Rattle.line.specs.Promised.{some-node, can-solve, can-hand-out, channels-small, falling, planned}
 use Rattle.line.specs.Placing.{line-places, line-placed}
 use Rattle.line.proofs.plan_line.Statement.{statement}
 use Rattle.line.proofs.plan_line.Tie as tie
 
 -- from one call back to the one before it, and to the start
 abbrev start : tie.After-solve → tie.Start
-start s = s .before .before .before .before .before .before .before
+start s = s .before .before .before .before .before
 
 abbrev solved : tie.After-hand-out → tie.After-solve
 solved h = h .before .before .before .before .before
@@ -21,14 +21,14 @@ solved h = h .before .before .before .before .before
 abbrev handed : tie.After-enter → tie.After-hand-out
 handed e = e .before .before .before .before .before .before
 
-abbrev entered : tie.After-places → tie.After-enter
+abbrev entered : tie.After-by-number → tie.After-enter
 entered m = m .before .before
 
-abbrev mapped : tie.After-price → tie.After-places
-mapped p = p .before .before .before .before
+abbrev mapped : tie.After-price → tie.After-by-number
+mapped p = p .before .before .before .before .before
 
 solve-requires : tie.Need-solve-requires
-solve-requires c κs = can-solve (c .before .before .before .before .before .before .pre)
+solve-requires c κs = can-solve (c .before .before .before .before .pre)
 
 hand-out-requires : tie.Need-hand-out-requires
 hand-out-requires c κs = let s = c .before .before .before .before in can-hand-out (start s .pre) (s .solve .ensures)
@@ -48,22 +48,22 @@ enter-requires c κs =
     let s = solved h in
     channels-small (start s .pre) (s .solve .ensures) (h .hand-out .ensures)
 
-places-requires : tie.Need-places-requires
-places-requires c κs = let s = solved (handed (c .before)) in can-solve (start s .pre) .cells-upto
+by-number-requires : tie.Need-by-number-requires
+by-number-requires c κs = let s = solved (handed (c .before)) in omega (arith, can-solve (start s .pre) .cells-upto)
 
 array-borrow-prefix-prices : tie.Need-array-borrow-prefix-prices
-array-borrow-prefix-prices c = let s = solved (handed (entered (c .before .before))) in omega (arith, can-solve (start s .pre) .cells-upto)
+array-borrow-prefix-prices c = let s = solved (handed (entered (c .before .before .before))) in omega (arith, can-solve (start s .pre) .cells-upto)
 
 slice-aggregate-price : tie.Need-slice-aggregate-price
-slice-aggregate-price c = let s = solved (handed (entered (c .before .before .before))) in sym (length-take-le _ _ (omega (arith, can-solve (start s .pre) .cells-upto)))
+slice-aggregate-price c = let s = solved (handed (entered (c .before .before .before .before))) in sym (length-take-le _ _ (omega (arith, can-solve (start s .pre) .cells-upto)))
 
 price-requires : tie.Need-price-requires
 price-requires c κs =
-    let m = c .before .before .before in
+    let m = c .before .before .before .before in
     let s = solved (handed (entered m)) in
     record {
       falling = falling (start s .pre) (s .solve .ensures);
-      places = line-places (m .places .ensures) (length-take-le _ _ (omega (arith, can-solve (start s .pre) .cells-upto)));
+      places = line-places (m .by-number .ensures) (length-take-le _ _ (omega (arith, can-solve (start s .pre) .cells-upto)));
     }
 
 earned-requires : tie.Need-earned-requires
@@ -79,20 +79,21 @@ returns-2 c =
     let e = entered m in
     let h = handed e in
     let s = solved h in
-    λ w. planned w (s .solve .ensures) (h .hand-out .ensures) (e .enter .ensures) (line-placed (m .places .ensures) (length-take-le _ _ (omega (arith, can-solve w .cells-upto))) (p .price .ensures) _) (c .before .before .earned .ensures) (c .number .ensures)
+    λ w. planned w (s .solve .ensures) (h .hand-out .ensures) (e .enter .ensures) (line-placed (m .by-number .ensures) (length-take-le _ _ (omega (arith, can-solve w .cells-upto))) (p .price .ensures) _) (c .before .before .earned .ensures) (c .number .ensures)
 
 pub plan-line-spec : {M : Type 1} → statement M
 plan-line-spec =
     tie.close
     (tie.spec
-    (λ c. search needs)
+    (λ c. some-node (c .pre))
     solve-requires
     hand-out-requires
     (λ c. search needs)
     returns
     (λ c. search needs)
     enter-requires
-    places-requires
+    (λ c. search needs)
+    by-number-requires
     array-borrow-prefix-prices
     slice-aggregate-price
     price-requires

@@ -8,10 +8,10 @@ use Rattle.order.proofs.by_number.Statement.{statement}
 use Rattle.order.proofs.by_number.Tie as tie
 
 abbrev Inv-loop : tie.InvT-loop
-Inv-loop count order₀ i₀ order i = (i ≤ count) × (length order ≡ 256) × Filled (λ i. i) i order
+Inv-loop count list₀ i₀ list i = (i ≤ count) × (length list ≡ length list₀) × Filled (λ i. i) i list
 
 abbrev μ-loop : tie.MeasureT-loop
-μ-loop count order₀ i₀ order i = count - i
+μ-loop count list₀ i₀ list i = count - i
 
 loop-holds : tie.Need-loop-holds Inv-loop μ-loop
 loop-holds c = (omega arith, omega arith, filled-none _ _)
@@ -22,7 +22,7 @@ loop-again c = (omega arith, simp length-set (omega arith), filled-more _ (c .be
 returns : tie.Need-returns Inv-loop μ-loop
 returns c =
     let l = c .before .loop in
-    let all : l .i ≡ c .before .before .before .before .args .count = omega arith in
+    let all : l .i ≡ c .before .before .args .count = omega arith in
     rw all at (l .inv .2)
 
 pub by-number-spec : {M : Type 1} → statement M
@@ -37,4 +37,5 @@ by-number-spec =
     (λ c. omega arith)
     (λ c. omega arith)
     loop-again
+    (λ c. omega arith)
     returns)

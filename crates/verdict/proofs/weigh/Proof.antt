@@ -3,7 +3,7 @@ use native.Mathlib.Omega.{arith}
 use borrow.Author.Needs.{needs}
 use borrow.Author.Tests.{not-true, not-false}
 use Rattle.rules.specs.Prices.{verdict}
-use Rattle.ceiling.specs.PricedLine.{few-spans, few}
+use Rattle.lines.specs.HeldLine.{few-spans, few}
 use Rattle.verdict.specs.CanCheck.{drawn}
 use Rattle.verdict.proofs.weigh.Statement.{statement}
 use Rattle.verdict.proofs.weigh.Tie as tie

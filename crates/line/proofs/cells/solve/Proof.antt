@@ -39,9 +39,11 @@ returns c =
     let o = ranked a in
     let m = made o in
     record {
+      cost = _;
       candidates = laid m .lay .ensures;
       free = _;
       free-is = m .make-room .ensures;
+      room = _;
       standing = reordered (o .ordered .ensures) (a .arrange .ensures) (c .put-back .ensures) (p .plan-row .ensures);
     }
 

@@ -43,7 +43,7 @@ use denote.Triple.Table.{entered, cited}
 use denote.Triple.Walked.{says, needs, Stays, stay-none, walkOf, goes-none, Walks, ends-at, walked, walk-meets}
 use denote.Exit.{yes}
 use denote.Triple.Clauses.{ensured, lasts}
-use Rattle.reader.specs.Due.{Placed, recordAt}
+use Rattle.reader.specs.Due.{MayStand, recordAt}
 use Rattle.reader.specs.declared.view.View.{View}
 use Rattle.reader.specs.declared.records.Due.{Due}
 use Rattle.reader.specs.declared.Reading.{Reading}
@@ -115,7 +115,7 @@ module _ {M : Type 1} (𝓤 : URA M) (H : Heap 𝓤) (A : Atoms 𝓤) (W : Given
 
   module _ (is-due : Is E.the-row e (w ∷ [])) where
     -- the callee gets what it asks, and the view is kept
-    apart : d .at < 2 ^ 64 → Placed (now (d .src)) (d .at) e → ent 𝓤 (onEntry 𝓤 H A next.signature (κ, tt) (q, tt) (d, (e, tt)) at) (sep 𝓤 (RecordAt 𝓤 H A mem run .pre to) (sem 𝓤 H A Own))
+    apart : d .at < 2 ^ 64 → MayStand (now (d .src)) (d .at) e → ent 𝓤 (onEntry 𝓤 H A next.signature (κ, tt) (q, tt) (d, (e, tt)) at) (sep 𝓤 (RecordAt 𝓤 H A mem run .pre to) (sem 𝓤 H A Own))
     apart fits placed =
         qed W ((‵ (flft κ q) ⊛ ‵ ftrue) ∷ ‵ (owns (B (κ, tt) ∷ E.the-row ∷ []) (d, (e, tt)) at) ∷ []) ∵
         move ! (1 ∷ []) $ fsplit ! $ move ! (1 ∷ []) $ drop ! $ use1 W (‵ Own ⊛ ‵ Own) (LL.copy D (T′.the-copy (namedLft 1 0 tt (κ, tt))) 𝓤 H A W .twice d (mach ∷ [])) $ split ! $
@@ -139,7 +139,7 @@ module _ {M : Type 1} (𝓤 : URA M) (H : Heap 𝓤) (A : Atoms 𝓤) (W : Given
   said r = exE 𝓤 _ (λ ws. snd∗ 𝓤 (sem 𝓤 H A (lasts record-at.ended (κ, tt) (d .src, (d .at, (e, tt))) ws)) (fact 𝓤 (r ≡ found)))
 
   module _ (C : Calls 𝓤 H) (Λ : Loops 𝓤 H) (fm : FmC 𝓤 H (W .laws) C) (known : Triple 𝓤 (C #reader·records·record-at) (RecordAt 𝓤 H A mem run)) where
-    walk : Holds (hasTy (T′.mir (named 0)) mach) × WT mach → Is E.the-row e (w ∷ []) → Placed (now (d .src)) (d .at) e
+    walk : Holds (hasTy (T′.mir (named 0)) mach) × WT mach → Is E.the-row e (w ∷ []) → MayStand (now (d .src)) (d .at) e
         → ent 𝓤 (onEntry 𝓤 H A next.signature (κ, tt) (q, tt) (d, (e, tt)) at) (WpFn 𝓤 H C Λ code.function (mach ∷ w ∷ []) Post)
     walk wt is-due placed =
         qed W (raw (onEntry 𝓤 H A next.signature (κ, tt) (q, tt) (d, (e, tt)) at) ∷ []) ∵ enter ! C Λ code.function (mach ∷ w ∷ []) _ $

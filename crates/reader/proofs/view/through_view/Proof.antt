@@ -37,7 +37,7 @@ use denote.Triple.Table.{entered, cited}
 use denote.Triple.Walked.{says, needs, Stays, stay-none, stay-none-slice, walkOf, goes-none, goes-none-slice, Walks, ends-at, walked, walk-meets}
 use denote.Exit.{yes}
 use denote.Triple.Clauses.{ensured, lasts}
-use Rattle.reader.specs.Due.{Placed, recordAt}
+use Rattle.reader.specs.Due.{MayStand, recordAt}
 use Rattle.reader.specs.declared.view.View.{View}
 use Rattle.reader.specs.declared.records.Due.{Due}
 use Rattle.reader.specs.declared.Reading.{Reading}
@@ -127,7 +127,7 @@ module _ {M : Type 1} (𝓤 : URA M) (H : Heap 𝓤) (A : Atoms 𝓤) (W : Given
   next-said r t = exE 𝓤 _ (λ ws. snd∗ 𝓤 (sem 𝓤 H A (lasts next.ended (κ, tt) (r, (e, tt)) ws)) (fact 𝓤 (t ≡ recordAt (now (r .src)) (r .at) e)))
 
   module _ (is-due : Is E.the-row e (w ∷ [])) where
-    goes-next : (r : View) (u : Val) → Placed (now s) n e → IsMade r → ent 𝓤 (⋆ 𝓤 H A (‵ (B (κ, tt) .own r (u ∷ [])) ∷ (‵ (flft κ q) ⊛ ‵ ftrue) ∷ [])) (Next 𝓤 H A mem run .pre (to-next r u))
+    goes-next : (r : View) (u : Val) → MayStand (now s) n e → IsMade r → ent 𝓤 (⋆ 𝓤 H A (‵ (B (κ, tt) .own r (u ∷ [])) ∷ (‵ (flft κ q) ⊛ ‵ ftrue) ∷ [])) (Next 𝓤 H A mem run .pre (to-next r u))
     goes-next r u placed h =
         qed W (‵ (B (κ, tt) .own r (u ∷ [])) ∷ (‵ (flft κ q) ⊛ ‵ ftrue) ∷ []) ∵ says ! (rw (h .0, h .1) placed) $
         nothing ! $ owned ! E.the-row (Is E.the-row) (EL.makes E.the-type E′.the-plain 𝓤 H A) e _ is-due $ fjoin ! $ move ! (1 ∷ 0 ∷ []) $ fjoin ! $ move ! (1 ∷ 0 ∷ []) $ frame ! $ done !
@@ -139,7 +139,7 @@ module _ {M : Type 1} (𝓤 : URA M) (H : Heap 𝓤) (A : Atoms 𝓤) (W : Given
         move ! (1 ∷ []) $ frame ! $ nothing ! $ owned ! E.the-row (Is E.the-row) (EL.makes E.the-type E′.the-plain 𝓤 H A) e _ is-due $ fjoin ! $ owned ! usize (Is usize) (uint-makes 𝓤 H A W w64) n _ (refl, ok) $ fjoin ! $ move ! (2 ∷ 0 ∷ []) $ fjoin ! $ frame ! $ done !
 
   module _ (C : Calls 𝓤 H) (Λ : Loops 𝓤 H) (fm : FmC 𝓤 H (W .laws) C) (known-made : Triple 𝓤 (C #reader·view·view-from) (Made 𝓤 H A mem run)) (known-next : Triple 𝓤 (C #reader·view·next) (Next 𝓤 H A mem run)) where
-    walk : Is (ShrSlice (named 0) κ u8) s (v ∷ []) → Is E.the-row e (w ∷ []) → Placed (now s) n e → ent 𝓤 (onEntry 𝓤 H A through.signature (κ, tt) (q, tt) (s, (n, (e, tt))) passed) (WpFn 𝓤 H C Λ code.function (v ∷ vint w64 n ∷ w ∷ []) Post)
+    walk : Is (ShrSlice (named 0) κ u8) s (v ∷ []) → Is E.the-row e (w ∷ []) → MayStand (now s) n e → ent 𝓤 (onEntry 𝓤 H A through.signature (κ, tt) (q, tt) (s, (n, (e, tt))) passed) (WpFn 𝓤 H C Λ code.function (v ∷ vint w64 n ∷ w ∷ []) Post)
     walk p is-due placed =
         qed W (raw (onEntry 𝓤 H A through.signature (κ, tt) (q, tt) (s, (n, (e, tt))) passed) ∷ []) ∵ enter ! C Λ code.function (v ∷ vint w64 n ∷ w ∷ []) _ $
         alloc1 ! (λ l₀. alloc1 ! (λ l₁. alloc1 ! (λ l₂. alloc1 ! (λ l₃. alloc1 ! (λ l₄. alloc0 ! $ params1 ! $

@@ -1,6 +1,6 @@
 -- `verdict::totals::balanced` meets its contract: its two numbers are the book's earnings and the ceiling of its prices. Assumes nothing.
 use native.Mathlib.Omega.{arith}
-use Rattle.ceiling.specs.PricedLine.{few-spans}
+use Rattle.lines.specs.HeldLine.{few-spans}
 use Rattle.verdict.specs.Balance.{can-earn, priced-line, same-balance}
 use Rattle.verdict.proofs.totals.balanced.Statement.{statement}
 use Rattle.verdict.proofs.totals.balanced.Tie as tie
