@@ -22,7 +22,7 @@ pub record Latest (count : ℕ) (hi channel ends : List ℕ) : Type 0 where
   pub upto : (j : ℕ) → j < count → 0 < at channel j → at hi j ≤ at ends (at channel j)
   pub by : (c : ℕ) → 1 ≤ c → 0 < at ends c → (j : ℕ) × (j < count) × (at channel j ≡ c) × (at hi j ≡ at ends c)
 
-zeros : (n c : ℕ) → at (replicate n 0) c ≡ 0
+pub zeros : (n c : ℕ) → at (replicate n 0) c ≡ 0
 zeros zero c = refl
 zeros (suc n) zero = refl
 zeros (suc n) (suc c) = zeros n c

@@ -31,7 +31,7 @@ fn lowest_past(k: usize, ends: &[usize; 128], from: usize) -> usize
 }
 
 // Lists the kept ones by first node, in rising number: `first` leads to a node's first one, `after` from each to the next; `count` and more is none.
-fn begin_lists(
+pub fn begin_lists(
     count: usize,
     lo: &[usize; 256],
     kept: &[bool; 256],

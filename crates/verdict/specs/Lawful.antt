@@ -9,7 +9,7 @@ use native.Mathlib.Omega.{arith}
 use borrow.Author.Tests.{eqb-true}
 use lib.Dec.{leb, ltb, eqb}
 use Rattle.sums.specs.Each.{each, each-at, each-of, left-of, decided, of-yes}
-use Rattle.sums.specs.Sums.{bit, when-no, Σ-ext}
+use Rattle.sums.specs.Sums.{when, bit, when-le, when-no, Σ-ext}
 use Rattle.sums.specs.Tests.{implied}
 use Rattle.book.specs.Bytes.{entryIn}
 use Rattle.book.specs.Book as Books
@@ -23,9 +23,9 @@ use Rattle.lines.specs.Line.{Line}
 use Rattle.lines.specs.RowOf.{rowOf}
 use Rattle.lines.specs.Ways.{line-way}
 use Rattle.lines.specs.Laid.{Laid, over-covers}
-use Rattle.verdict.specs.CanCheck.{Drawn}
+use Rattle.verdict.specs.CanCheck.{Drawn, EndsBelow}
 use Rattle.verdict.specs.Entry.{wayAt, formedAt, formedIn, LaidOut}
-use Rattle.verdict.specs.Spans.{over, over-late, FairOn, FairSpans, CanLook, Decides}
+use Rattle.verdict.specs.Spans.{over, over-late, FairOn, FairSpans, CanSweep, Decides}
 use Rattle.verdict.specs.SpanBySpan.{formedOr, obeys-formed, obeys-on, on-obeys}
 
 -- two tests that answer yes together answer alike
@@ -45,10 +45,24 @@ fair-as {count} {f} {g} same held lim fair = record {
   within = omega (arith, fair .within, Σ-ext count (λ i. bit (f i)) (λ i. bit (g i)) (λ i l. ap bit (same i l)));
 }
 
--- an entry's channel is below 256, whatever the entry is
-pub can-look : {count : ℕ} {a b lo hi held : List ℕ} {plan : Plan} → count ≤ 256 → LaidOut count a b plan lo hi held → CanLook count held
+-- a plan's columns can be swept: an entry's channel is below 256, whatever the entry is
+pub can-sweep :
+    {count : ℕ} {a b lo hi held : List ℕ} {crossing : List Bool} {plan : Plan} → count ≤ 256 → EndsBelow 64 count a b → LaidOut count a b plan lo hi crossing held
+    → CanSweep count lo hi crossing held
 unfolding channel
-can-look few laid-out = record { count-upto = few; below = λ i l. omega (arith, laid-out .channel-is .is i l) }
+can-sweep {a = a} {b} {plan = plan} few ends laid-out = record {
+  between = record {
+    count-upto = few;
+    upward = λ i l. omega (arith, laid-out .lo-is .is i l, laid-out .hi-is .is i l, when-upto (kept plan i) (min (at a i) (at b i)) (max (at a i) (at b i)) (omega arith));
+    in-line = λ i l. omega (arith, laid-out .hi-is .is i l, when-le (kept plan i) (max (at a i) (at b i)), ends .a-below i l, ends .b-below i l);
+  };
+  real = laid-out .crossing-is;
+  below = λ i l. omega (arith, laid-out .channel-is .is i l);
+}
+  where
+    when-upto : (t : Bool) (x y : ℕ) → x ≤ y → when t x ≤ when t y
+    when-upto true x y h = h
+    when-upto false x y h = omega arith
 
 module _ {book : Book} (on : Line book) (plan : Plan) where
   -- the entry by its numbers
@@ -65,7 +79,7 @@ module _ {book : Book} (on : Line book) (plan : Plan) where
 
 module _
     {book : Book} {spans count : ℕ} {limits a b : List ℕ} (drawn : Drawn book spans limits count a b)
-    {plan : Plan} {lo hi held : List ℕ} (laid-out : LaidOut count a b plan lo hi held)
+    {plan : Plan} {lo hi held : List ℕ} {crossing : List Bool} (laid-out : LaidOut count a b plan lo hi crossing held)
   where
     -- a request by its columns crosses the spans that it crosses on its way
     over-columns : Laid book plan → (s i : ℕ) → i < count → Plans.over book plan i s ≡ over lo hi s i
@@ -108,7 +122,8 @@ module _
 
     -- else the spans decide
     pub spans-obey :
-        {formed answer : Bool} {lo hi held : List ℕ} → formed ≡ each count (formedIn channels a b entries) → formed ≡ true → LaidOut count a b (entryIn entries) lo hi held
+        {formed answer : Bool} {lo hi held : List ℕ} {crossing : List Bool}
+        → formed ≡ each count (formedIn channels a b entries) → formed ≡ true → LaidOut count a b (entryIn entries) lo hi crossing held
         → Decides answer (FairSpans spans limits count lo hi held) → answer ≡ obeys book (entryIn entries)
     spans-obey {answer = answer} {lo} {hi} {held} is all laid-out d = same-answer sound whole
       where

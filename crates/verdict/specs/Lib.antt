@@ -1,6 +1,8 @@
 pub mod CanCheck
 pub mod Entry
 pub mod Spans
+pub mod Sweep
+pub mod Loads
 pub mod SpanBySpan
 pub mod Lawful
 pub mod Totals

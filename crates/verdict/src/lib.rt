@@ -12,6 +12,7 @@ ghost use Rattle.verdict.specs.Checked.{checkedOf};
 mod ends;
 mod fair;
 mod places;
+mod sweep;
 mod totals;
 
 // What checking a plan comes to: yes, no, or a refusal with its number and place.

@@ -4,14 +4,14 @@ use borrow.Author.Needs.{needs}
 use borrow.Author.Tests.{not-true, not-false}
 use Rattle.rules.specs.Prices.{verdict}
 use Rattle.lines.specs.HeldLine.{few-spans, few}
-use Rattle.verdict.specs.CanCheck.{drawn}
+use Rattle.verdict.specs.CanCheck.{drawn, ends-below}
 use Rattle.verdict.proofs.weigh.Statement.{statement}
 use Rattle.verdict.proofs.weigh.Tie as tie
 
 lawful-requires : tie.Need-lawful-requires
 lawful-requires c κs =
     let w = c .before .before .pre in
-    omega (arith, few-spans (w .held), few (w .held), w .entries-enough)
+    (omega (arith, few-spans (w .held), few (w .held), w .entries-enough), ends-below (w .held))
 
 returns : tie.Need-returns
 unfolding verdict
