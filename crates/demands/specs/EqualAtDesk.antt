@@ -21,16 +21,11 @@ module _ {book : Book} (sound : Sound book) {entries prices entries₁ prices₁
         let cut : p .cut ≡ q .cut = cut-equal sound (p .planned) (q .planned) in
         p .says ∙ rw (earned, number, cut) (sym (q .says))
 
-    -- the two bytes of entry i
-    pub desk-high-equal : (i : ℕ) → i < count book → byte entries₁ (2 * i) ≡ byte entries₂ (2 * i)
-    desk-high-equal i l =
+    -- each byte of entry i, k before it and j after it
+    pub desk-bytes-equal : (i k j : ℕ) → i < count book → k + 1 + j ≡ 2 → byte entries₁ (2 * i + k) ≡ byte entries₂ (2 * i + k)
+    desk-bytes-equal i k j l two =
         let e : p .plan i ≡ q .plan i = entries-equal sound (p .planned) (q .planned) same i l in
-        p .written .high i l ∙ rw e (sym (q .written .high i l))
-
-    pub desk-low-equal : (i : ℕ) → i < count book → byte entries₁ (2 * i + 1) ≡ byte entries₂ (2 * i + 1)
-    desk-low-equal i l =
-        let e : p .plan i ≡ q .plan i = entries-equal sound (p .planned) (q .planned) same i l in
-        p .written .low i l ∙ rw e (sym (q .written .low i l))
+        p .written .bytes i k j l two ∙ rw e (sym (q .written .bytes i k j l two))
 
     -- the bytes after them keep what they held
     pub desk-later-equal : (t : ℕ) → 2 * count book ≤ t → byte entries₁ t ≡ byte entries₂ t

@@ -20,7 +20,7 @@ use Rattle.planner.specs.Cases.{is-refused, is-planned, plan-holds}
 use Rattle.desk.specs.Packing.{packedRefusal, packedPlan}
 use Rattle.desk.specs.Promise.{EntriesWritten, PricesWritten, Handed, PlanAnswer}
 use Rattle.desk.specs.Bounds.{SmallRefusal, SmallPlan, LongEnough, spans-small, refusal-small, plan-small, long-enough}
-use Rattle.desk.specs.Writing.{EntriesFit, PricesFit}
+use Rattle.desk.specs.Writing.{Fit}
 
 answer-refused :
     {file entries prices : List ℕ} {answer number place : ℕ} → plannable file entries prices ≡ refused number place → answer ≡ packedRefusal number place
@@ -70,26 +70,28 @@ module _ {file : List ℕ} (entries prices : List ℕ) {r : BookPlan} (made : Bo
     pub numbers-fit : SmallPlan earned number cut
     numbers-fit = plan-small (plan .sound) planned
 
-    pub entries-fit : EntriesFit (r .count) (r .entries) entries
-    entries-fit =
+    pub entries-fit : length (r .entries) ≡ 256 → Fit 2 (r .count) (r .entries) entries
+    entries-fit all =
         let fair = fair-printable {entries = r .entries} (plan .sound) (plan-holds plan) (plan .planned .fair) in
-        record { many = fair .many; room = omega (arith, plan .count-is, long .entries); small = λ i h. omega (arith, fair .entry i h) }
+        record { there = omega (arith, fair .many); room = omega (arith, plan .count-is, long .entries); whole = λ i h. omega (arith, fair .entry i h) }
 
-    pub prices-fit : r .shape ≡ 1 → PricesFit (r .spans) (r .prices) prices
+    pub prices-fit : length (r .prices) ≡ 64 → r .shape ≡ 1 → Fit 4 (r .spans) (r .prices) prices
     unfolding spans
-    prices-fit e =
+    prices-fit all e =
         let on : book .shape ≡ 1 = omega (arith, plan .shape-is) in
         record {
-          many = omega (arith, plan .spans-is, plan .sound .nodes-upto, spans-small (book .shape) (book .nodes));
+          there = omega (arith, plan .spans-is, plan .sound .nodes-upto, spans-small (book .shape) (book .nodes));
           room = omega (arith, plan .spans-is, long .prices on);
-          small = λ j h. omega (arith, plan .priced on .small j (omega (arith, plan .spans-is)));
+          whole = λ j h. omega (arith, plan .priced on .small j (omega (arith, plan .spans-is)));
         }
 
     -- both ways out of a plan, once the entries are written
     module _ {answer : ℕ} {entries′ : List ℕ} (packed : answer ≡ packedPlan earned number cut) (written : EntriesWritten (r .count) (at (r .entries)) entries entries′) where
-      pub handed-line : {prices′ : List ℕ} → r .shape ≡ 1 → PricesWritten (r .spans) (at (r .prices)) prices prices′ → PlanAnswer file entries prices answer entries′ prices′
+      handed :
+          {prices′ : List ℕ} → (book .shape ≡ 1 → PricesWritten (spans book) (at (r .prices)) prices prices′) → (book .shape ≡ 2 → prices′ ≡ prices)
+          → PlanAnswer file entries prices answer entries′ prices′
       unfolding plannable entryPlaces pricePlaces
-      handed-line e costs =
+      handed on-line on-ring =
           answer-planned (is-planned made says .1)
           (record {
             plan = at (r .entries);
@@ -101,24 +103,12 @@ module _ {file : List ℕ} (entries prices : List ℕ) {r : BookPlan} (made : Bo
             written = rw (plan .count-is) at written;
             costs = at (r .prices);
             priced = plan .priced;
-            line-prices = λ l. rw (plan .spans-is) at costs;
-            ring-prices = λ l. absurd (omega (arith, plan .shape-is));
+            line-prices = on-line;
+            ring-prices = on-ring;
           })
 
+      pub handed-line : {prices′ : List ℕ} → r .shape ≡ 1 → PricesWritten (r .spans) (at (r .prices)) prices prices′ → PlanAnswer file entries prices answer entries′ prices′
+      handed-line e costs = handed (λ l. rw (plan .spans-is) at costs) (λ l. absurd (omega (arith, plan .shape-is)))
+
       pub handed-ring : (r .shape ≡ 1 → ⊥) → PlanAnswer file entries prices answer entries′ prices
-      unfolding plannable entryPlaces pricePlaces
-      handed-ring other =
-          answer-planned (is-planned made says .1)
-          (record {
-            plan = at (r .entries);
-            earned = earned;
-            number = number;
-            cut = cut;
-            says = packed;
-            planned = planned;
-            written = rw (plan .count-is) at written;
-            costs = at (r .prices);
-            priced = plan .priced;
-            line-prices = λ l. absurd (other (plan .shape-is ∙ l));
-            ring-prices = λ l. refl;
-          })
+      handed-ring other = handed (λ l. absurd (other (plan .shape-is ∙ l))) (λ l. refl)

@@ -1,7 +1,7 @@
 -- What the exported functions promise for every input: the answer and the later content of every byte of both lists. Assumes nothing.
 use mathlib.Core.List.{List}
 use mathlib.Core.Path.{_≡_}
-use Prim.Native.Nat.{ℕ, _+_, _*_, _/_, _%_, _≤_, _<_}
+use Prim.Native.Nat.{ℕ, _+_, _*_, _^_, _/_, _%_, _≤_, _<_}
 use lib.ListN.{length}
 use Rattle.book.specs.Bytes.{byte}
 use Rattle.book.specs.Book.{Book, spans, count}
@@ -11,21 +11,20 @@ use Rattle.rules.specs.Prices.{Prices}
 use Rattle.rules.specs.Operations.{plannable, Planned, Priced}
 use Rattle.desk.specs.Packing.{packedRefusal, packedPlan}
 
--- the first n entries of a list are those of the plan, high byte first, and every later byte is what it was
-pub record EntriesWritten (n : ℕ) (plan : Plan) (before after : List ℕ) : Type 0 where
+-- The first n numbers are written in w bytes each, high byte first, and every later byte is what it was. A byte with k of its number's bytes before it and
+-- j after it counts for 256 ^ j; no number is too large for its bytes.
+pub record Written (w n : ℕ) (numbers : ℕ → ℕ) (before after : List ℕ) : Type 0 where
   pub length-same : length after ≡ length before
-  pub high : (i : ℕ) → i < n → byte after (2 * i) ≡ plan i / 256
-  pub low : (i : ℕ) → i < n → byte after (2 * i + 1) ≡ plan i % 256
-  pub later : (t : ℕ) → 2 * n ≤ t → byte after t ≡ byte before t
+  pub whole : (i : ℕ) → i < n → numbers i < 256 ^ w
+  pub bytes : (i k j : ℕ) → i < n → k + 1 + j ≡ w → byte after (w * i + k) ≡ numbers i / 256 ^ j % 256
+  pub later : (t : ℕ) → w * n ≤ t → byte after t ≡ byte before t
 
--- the same for prices, four bytes each
-pub record PricesWritten (n : ℕ) (prices : Prices) (before after : List ℕ) : Type 0 where
-  pub length-same : length after ≡ length before
-  pub first : (j : ℕ) → j < n → byte after (4 * j) ≡ prices j / 16777216
-  pub second : (j : ℕ) → j < n → byte after (4 * j + 1) ≡ prices j / 65536 % 256
-  pub third : (j : ℕ) → j < n → byte after (4 * j + 2) ≡ prices j / 256 % 256
-  pub fourth : (j : ℕ) → j < n → byte after (4 * j + 3) ≡ prices j % 256
-  pub later : (t : ℕ) → 4 * n ≤ t → byte after t ≡ byte before t
+-- the entries of a plan, two bytes each; the prices of a line's spans, four
+abbrev pub EntriesWritten : ℕ → Plan → List ℕ → List ℕ → Type 0
+EntriesWritten = Written 2
+
+abbrev pub PricesWritten : ℕ → Prices → List ℕ → List ℕ → Type 0
+PricesWritten = Written 4
 
 -- a plan for an accepted book with lists long enough: the entries are written and, on a line, the prices; on a ring the price list stays as it was
 pub record Handed (book : Book) (answer : ℕ) (entries prices entries′ prices′ : List ℕ) : Type 0 where

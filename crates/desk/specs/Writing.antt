@@ -1,87 +1,92 @@
--- Writing a list of numbers high byte first: each turn writes the bytes of one more, and leaves every other byte as it was. Assumes nothing.
+-- Writing a list of numbers high byte first: each turn writes the bytes of one more, from its last one back, and leaves every other byte as it was.
+-- Said once for any width: entries have two bytes and prices four. Assumes nothing.
 use mathlib.Core.List.{List}
 use mathlib.Core.Logic.{⊎-elim}
-use mathlib.Core.Path.{_≡_, refl, _∙_}
-use Prim.Native.Nat.{ℕ, _+_, _*_, _/_, _%_, _≤_, _<_}
+use mathlib.Core.Path.{_≡_, refl, sym, ap, _∙_}
+use Prim.Native.Nat.{ℕ, suc, _+_, _-_, _*_, _^_, _/_, _%_, _≤_, _<_}
+use native.Mathlib.Nat.{pow-suc, div-one, div-div-eq-div-mul, mul-le-mul-left}
 use native.Mathlib.Omega.{arith}
 use lib.ListN.{length, set, length-set}
 use lib.Seq.{getD-set-same, getD-set-other}
 use Rattle.sums.specs.Each.{less-or-not}
 use Rattle.book.specs.Bytes.{byte}
 use Rattle.book.specs.Columns.{at}
-use Rattle.rules.specs.Plans.{Plan}
-use Rattle.rules.specs.Prices.{Prices}
-use Rattle.desk.specs.Promise.{EntriesWritten, PricesWritten}
+use Rattle.desk.specs.Promise.{Written}
 
--- the two bytes of a number stand at an offset, and no other byte changed
-pub record PutTwo (offset value : ℕ) (before after : List ℕ) : Type 0 where
+-- ---- one number
+
+-- of a number's w bytes, which begin at an offset, all but the first `left` are written, and no other byte changed
+pub record Put (offset w left value : ℕ) (before after : List ℕ) : Type 0 where
   pub length-same : length after ≡ length before
-  pub high : byte after offset ≡ value / 256
-  pub low : byte after (offset + 1) ≡ value % 256
-  pub earlier : (t : ℕ) → t < offset → byte after t ≡ byte before t
-  pub later : (t : ℕ) → offset + 2 ≤ t → byte after t ≡ byte before t
+  pub bytes : (k j : ℕ) → left ≤ k → k + 1 + j ≡ w → byte after (offset + k) ≡ value / 256 ^ j % 256
+  pub earlier : (t : ℕ) → t < offset + left → byte after t ≡ byte before t
+  pub later : (t : ℕ) → offset + w ≤ t → byte after t ≡ byte before t
 
-pub put-two :
-    (before : List ℕ) (offset value : ℕ) → offset + 1 < length before → value < 65536
-    → PutTwo offset value before (set (set before offset (value / 256 % 256)) (offset + 1) (value % 256))
-put-two before offset value room small =
-    let first = set before offset (value / 256 % 256) in
+-- the same on the way there: the rest is the number without the bytes that are written
+pub record Putting (offset w left value rest : ℕ) (before after : List ℕ) : Type 0 where
+  pub upto : left ≤ w
+  pub rest-is : (j : ℕ) → left + j ≡ w → rest ≡ value / 256 ^ j
+  pub put : Put offset w left value before after
+
+pub putting-none : (offset w value : ℕ) (before : List ℕ) → Putting offset w w value value before before
+putting-none offset w value before =
     record {
-      length-same = simp length-set;
-      high =
-          getD-set-other first (offset + 1) offset (value % 256) 0 (λ e. omega arith) ∙ getD-set-same before offset (value / 256 % 256) 0 (omega arith) ∙ omega arith;
-      low = getD-set-same first (offset + 1) (value % 256) 0 (omega (arith, length-set before offset (value / 256 % 256)));
-      earlier = λ t h. getD-set-other first (offset + 1) t (value % 256) 0 (λ e. omega arith) ∙ getD-set-other before offset t (value / 256 % 256) 0 (λ e. omega arith);
-      later = λ t h. getD-set-other first (offset + 1) t (value % 256) 0 (λ e. omega arith) ∙ getD-set-other before offset t (value / 256 % 256) 0 (λ e. omega arith);
+      upto = omega arith;
+      rest-is = λ j e. let none : j ≡ 0 = omega arith in rw none (sym (div-one value));
+      put = record { length-same = refl; bytes = λ k j l e. absurd (omega arith); earlier = λ t h. refl; later = λ t h. refl };
     }
 
--- what the callers see to
-pub record EntriesFit (n : ℕ) (entries out : List ℕ) : Type 0 where
-  pub many : n ≤ 256
-  pub room : 2 * n ≤ length out
-  pub small : (i : ℕ) → i < n → at entries i < 65536
-
-pub record PricesFit (n : ℕ) (prices out : List ℕ) : Type 0 where
-  pub many : n ≤ 64
-  pub room : 4 * n ≤ length out
-  pub small : (j : ℕ) → j < n → at prices j < 4294967296
-
-pub entries-none : (plan : Plan) (before : List ℕ) → EntriesWritten 0 plan before before
-entries-none plan before = record { length-same = refl; high = λ i h. absurd (omega arith); low = λ i h. absurd (omega arith); later = λ t h. refl }
-
-pub entries-more :
-    {n : ℕ} {plan : Plan} {before out after : List ℕ} → EntriesWritten n plan before out → PutTwo (2 * n) (plan n) out after → EntriesWritten (n + 1) plan before after
-entries-more {n} {plan} {before} {out} {after} was put =
+pub putting-more :
+    {offset w left value rest : ℕ} {before out : List ℕ} → 0 < left → offset + w ≤ length before → Putting offset w left value rest before out
+    → Putting offset w (left - 1) value (rest / 256) before (set out (offset + (left - 1)) (rest % 256))
+putting-more {offset} {w} {left} {value} {rest} {before} {out} some room was =
     record {
-      length-same = put .length-same ∙ was .length-same;
-      high = λ i h. ⊎-elim (λ l. put .earlier (2 * i) (omega arith) ∙ was .high i l) (λ l. let e : i ≡ n = omega arith in rw e (put .high)) (less-or-not i n);
-      low = λ i h. ⊎-elim (λ l. put .earlier (2 * i + 1) (omega arith) ∙ was .low i l) (λ l. let e : i ≡ n = omega arith in rw e (put .low)) (less-or-not i n);
-      later = λ t h. put .later t (omega arith) ∙ was .later t (omega arith);
-    }
-
-pub prices-none : (prices : Prices) (before : List ℕ) → PricesWritten 0 prices before before
-prices-none prices before =
-    record {
-      length-same = refl;
-      first = λ i h. absurd (omega arith);
-      second = λ i h. absurd (omega arith);
-      third = λ i h. absurd (omega arith);
-      fourth = λ i h. absurd (omega arith);
-      later = λ t h. refl;
-    }
-
-pub prices-more :
-    {n : ℕ} {prices : Prices} {before out half after : List ℕ} → PricesWritten n prices before out → PutTwo (4 * n) (prices n / 65536) out half → PutTwo (4 * n + 2) (prices n % 65536) half after
-    → PricesWritten (n + 1) prices before after
-prices-more {n} {prices} {before} {out} {half} {after} was put put′ =
-    record {
-      length-same = put′ .length-same ∙ put .length-same ∙ was .length-same;
-      first = λ i h. ⊎-elim (λ l. kept (4 * i) (omega arith) ∙ was .first i l) (λ l. let e : i ≡ n = omega arith in rw e (put′ .earlier (4 * n) (omega arith) ∙ put .high ∙ omega arith)) (less-or-not i n);
-      second = λ i h. ⊎-elim (λ l. kept (4 * i + 1) (omega arith) ∙ was .second i l) (λ l. let e : i ≡ n = omega arith in rw e (put′ .earlier (4 * n + 1) (omega arith) ∙ put .low)) (less-or-not i n);
-      third = λ i h. ⊎-elim (λ l. kept (4 * i + 2) (omega arith) ∙ was .third i l) (λ l. let e : i ≡ n = omega arith in rw e (put′ .high ∙ omega arith)) (less-or-not i n);
-      fourth = λ i h. ⊎-elim (λ l. kept (4 * i + 3) (omega arith) ∙ was .fourth i l) (λ l. let e : i ≡ n = omega arith in rw e (let at-fourth : 4 * n + 2 + 1 ≡ 4 * n + 3 = omega arith in rw at-fourth at (put′ .low) ∙ omega arith)) (less-or-not i n);
-      later = λ t h. put′ .later t (omega arith) ∙ put .later t (omega arith) ∙ was .later t (omega arith);
+      upto = omega (arith, was .upto);
+      rest-is = λ j e. further (j - 1) (omega (arith, was .upto)) (omega (arith, was .upto));
+      put =
+          record {
+            length-same = length-set out (offset + (left - 1)) (rest % 256) ∙ was .put .length-same;
+            bytes = λ k j l e. ⊎-elim (λ m. let last : k ≡ left - 1 = omega arith in rw last (written j (omega arith))) (λ m. other (offset + k) (λ z. omega arith) ∙ was .put .bytes k j m e) (less-or-not k left);
+            earlier = λ t h. other t (λ z. omega arith) ∙ was .put .earlier t (omega arith);
+            later = λ t h. other t (λ z. omega (arith, was .upto)) ∙ was .put .later t h;
+          };
     }
   where
-    kept : (t : ℕ) → t < 4 * n → byte after t ≡ byte out t
-    kept t h = put′ .earlier t (omega arith) ∙ put .earlier t (omega arith)
+    other : (t : ℕ) → (t ≡ (offset + (left - 1)) → ⊥) → byte (set out (offset + (left - 1)) (rest % 256)) t ≡ byte out t
+    other t h = getD-set-other out (offset + (left - 1)) t (rest % 256) 0 h
+
+    written : (j : ℕ) → left + j ≡ w → byte (set out (offset + (left - 1)) (rest % 256)) (offset + (left - 1)) ≡ value / 256 ^ j % 256
+    written j e = getD-set-same out (offset + (left - 1)) (rest % 256) 0 (omega (arith, was .put .length-same)) ∙ rw (was .rest-is j e)
+
+    further : {j : ℕ} (i : ℕ) → left + i ≡ w → j ≡ suc i → rest / 256 ≡ value / 256 ^ j
+    further i e is = rw (is, was .rest-is i e) (div-div-eq-div-mul value (256 ^ i) 256 ∙ ap (λ (x : ℕ). value / x) (sym (pow-suc 256 i)))
+
+-- ---- a list of numbers
+
+-- what the callers see to
+pub record Fit (w n : ℕ) (numbers out : List ℕ) : Type 0 where
+  pub there : n ≤ length numbers
+  pub room : w * n ≤ length out
+  pub whole : (i : ℕ) → i < n → at numbers i < 256 ^ w
+
+-- number i ends before any later one begins
+ends : {n : ℕ} (w i : ℕ) → i < n → w * i + w ≤ w * n
+ends w i h = omega (arith, mul-le-mul-left {m = suc i} w h)
+
+pub room-for : {w n : ℕ} {numbers out : List ℕ} → Fit w n numbers out → (i : ℕ) → i < n → w * i + w ≤ length out
+room-for {w} fit i h = omega (arith, ends w i h, fit .room)
+
+pub written-none : (w : ℕ) (numbers : ℕ → ℕ) (before : List ℕ) → Written w 0 numbers before before
+written-none w numbers before =
+    record { length-same = refl; whole = λ i h. absurd (omega arith); bytes = λ i k j h e. absurd (omega arith); later = λ t h. refl }
+
+pub written-more :
+    {w n : ℕ} {numbers : ℕ → ℕ} {before out after : List ℕ} → numbers n < 256 ^ w → Written w n numbers before out → Put (w * n) w 0 (numbers n) out after
+    → Written w (n + 1) numbers before after
+written-more {w} {n} {numbers} small was put =
+    record {
+      length-same = put .length-same ∙ was .length-same;
+      whole = λ i h. ⊎-elim (λ l. was .whole i l) (λ l. let e : i ≡ n = omega arith in rw e small) (less-or-not i n);
+      bytes = λ i k j h e. ⊎-elim (λ l. put .earlier (w * i + k) (omega (arith, ends w i l)) ∙ was .bytes i k j l e) (λ l. let same : i ≡ n = omega arith in rw same (put .bytes k j (omega arith) e)) (less-or-not i n);
+      later = λ t h. put .later t (omega arith) ∙ was .later t (omega arith);
+    }

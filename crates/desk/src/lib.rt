@@ -26,9 +26,9 @@ pub extern "C" fn melyonva_plan(book: &[u8], entries: &mut [u8], prices: &mut [u
             number,
             cut,
         } => {
-            write::write_entries(made.count, &plan, entries);
+            write::write_numbers(2, made.count, &plan, entries);
             if made.shape == 1 {
-                write::write_prices(made.spans, &costs, prices);
+                write::write_numbers(4, made.spans, &costs, prices);
                 return pack::plan(earned, number, cut);
             }
             pack::plan(earned, number, cut)

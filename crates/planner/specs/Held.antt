@@ -4,19 +4,17 @@ use mathlib.Core.Bool.{Bool, true, false, _&&_, _||_}
 use mathlib.Core.List.{List}
 use mathlib.Core.Logic.{⊎-elim}
 use mathlib.Core.Path.{_≡_, refl, sym, ap, _∙_}
-use Prim.Native.Nat.{ℕ, _-_}
+use Prim.Native.Nat.{ℕ}
 use native.Mathlib.Omega.{arith}
 use lib.Dec.{eqb, ltb}
 use Rattle.sums.specs.Each.{decided}
 use Rattle.book.specs.Book.{Book, spans, spansOf, count}
 use Rattle.book.specs.Columns.{at}
 use Rattle.book.specs.Reading.{done, refused, andThen}
-use Rattle.rules.specs.Plans.{earnings, numberKept}
 use Rattle.rules.specs.Cuts.{cut, cutShown}
-use Rattle.rules.specs.Operations.{placesShort, plannableIn}
+use Rattle.rules.specs.Operations.{placesShort, plannableIn, Planned, Priced}
 use Rattle.lines.specs.Line.{Line}
 use Rattle.lines.specs.Ways.{line-spans}
-use Rattle.rings.specs.CutLine.{ring-spans}
 use Rattle.rings.specs.Never15.{line-plan, ring-plan}
 use Rattle.reader.specs.declared.Network.{Network}
 use Rattle.reader.specs.declared.Refusal.{Refusal}
@@ -25,11 +23,13 @@ use Rattle.reader.specs.declared.Answer.the-variants.{Accepted, Refused}
 use Rattle.reader.specs.Says.{Reads, bookFrom}
 use Rattle.reader.specs.Accepted.{refused-read}
 use Rattle.columns.specs.Seam.{HeldBook, accepted}
+use Rattle.line.specs.declared.Solved as Solving
 use Rattle.line.specs.declared.Solved.{Solved}
 use Rattle.line.specs.Promise.{CanPlanLine, LinePlanned}
 use Rattle.ring.specs.Promise.{CanPlanRing, RingPlanned}
 use Rattle.planner.specs.declared.BookPlan.{BookPlan}
 use Rattle.planner.specs.declared.Answer.{Answer}
+use Rattle.planner.specs.declared.Found.{Found}
 use Rattle.planner.specs.Promise.{answered, Refusing, PlanOf, BookPlanned}
 
 -- the accepted book is refused by 12, or planned
@@ -45,79 +45,19 @@ pub ring-shown : (book : Book) → book .shape ≡ 2 → cutShown book ≡ cut b
 unfolding cutShown
 ring-shown book e = rw e
 
--- the line planner's answer is the plan of the line
-pub on-line :
-    {nodes channels n : ℕ} {limits a b profits entries prices : List ℕ} {solved : Solved} {answer : Answer} (w : CanPlanLine nodes channels n limits a b profits)
-    → LinePlanned (w .book) solved entries prices → answer ≡ answered solved 65535
-    → PlanOf (w .book) (record { answer = answer; shape = 1; spans = nodes - 1; count = n; a = a; b = b; entries = entries; prices = prices })
-unfolding answered
-on-line {entries} w made says =
-    let book = w .book in
+-- what is found, beside the columns of its book
+abbrev pub beside : Network → ℕ → (a b : List ℕ) → Found → BookPlan
+beside net n a b found =
     record {
-      earned = earnings book (at entries);
-      number = numberKept book (at entries);
-      cut = 65535;
-      says = says ∙ ap (λ (s : Solved). answered s 65535) (made .says);
-      planned = record {
-        fair = made .best-plan .fair;
-        best-there = rw (line-plan book (w .held .line .line)) (made .best-plan);
-        channels = rw (line-plan book (w .held .line .line)) (made .by-rule);
-        earned-is = refl;
-        number-is = refl;
-        cut-is = sym (line-shown book (w .held .line .line));
-      };
-      priced = λ e. record { small = made .prices-upto; accepted = made .accepted };
-      sound = w .held .line .sound;
-      shape-is = sym (w .held .line .line);
-      spans-is = w .held .spans-is;
-      count-is = w .held .holds .counted;
-      a-is = λ i h. w .held .holds .a-is i (omega (arith, w .held .holds .counted));
-      b-is = λ i h. w .held .holds .b-is i (omega (arith, w .held .holds .counted));
+      answer = found .answer;
+      shape = net .shape;
+      spans = spansOf (net .shape) (net .nodes);
+      count = n;
+      a = a;
+      b = b;
+      entries = found .entries;
+      prices = found .prices;
     }
-
--- the ring planner's answer is the plan of the ring; a ring has no prices
-pub on-ring :
-    {nodes channels n shown : ℕ} {limits a b profits entries prices : List ℕ} {solved : Solved} {answer : Answer} (w : CanPlanRing nodes channels n limits a b profits)
-    → RingPlanned (w .book) solved shown entries → answer ≡ answered solved shown
-    → PlanOf (w .book) (record { answer = answer; shape = 2; spans = nodes; count = n; a = a; b = b; entries = entries; prices = prices })
-unfolding answered
-on-ring {shown} {entries} w made says =
-    let book = w .book in
-    record {
-      earned = earnings book (at entries);
-      number = numberKept book (at entries);
-      cut = shown;
-      says = says ∙ ap (λ (s : Solved). answered s shown) (made .says);
-      planned = record {
-        fair = made .fair;
-        best-there = rw (ring-plan book (w .ring .ring)) (made .best-plan);
-        channels = rw (ring-plan book (w .ring .ring)) (made .by-rule);
-        earned-is = refl;
-        number-is = refl;
-        cut-is = made .cut-is ∙ sym (ring-shown book (w .ring .ring));
-      };
-      priced = λ e. absurd (omega (arith, w .ring .ring));
-      sound = w .ring .sound;
-      shape-is = sym (w .ring .ring);
-      spans-is = omega (arith, ring-spans (w .ring), w .nodes-is);
-      count-is = w .holds .counted;
-      a-is = λ i h. w .holds .a-is i (omega (arith, w .holds .counted));
-      b-is = λ i h. w .holds .b-is i (omega (arith, w .holds .counted));
-    }
-
--- the test of 12 on the numbers that hold the book
-pub short-is :
-    {net : Network} {n spansN : ℕ} {limits a b profits : List ℕ} {t : Bool} (entryPlaces pricePlaces : ℕ) (held : HeldBook net n limits a b profits) → spansN ≡ spansOf (net .shape) (net .nodes)
-    → t ≡ (ltb entryPlaces n || (eqb (net .shape) 1 && ltb pricePlaces spansN)) → placesShort (held .book) entryPlaces pricePlaces ≡ t
-unfolding placesShort spans count
-short-is entryPlaces pricePlaces held s e = rw (held .shape-is, held .nodes-is, ← held .holds .counted, e, s)
-
--- 12, and a plan where it is not 12
-pub held-short : {book : Book} {entryPlaces pricePlaces : ℕ} {r : BookPlan} → placesShort book entryPlaces pricePlaces ≡ true → Refusing (record { number = 12; place = 0 }) r → HeldPlanned book entryPlaces pricePlaces r
-held-short t says = record { short = λ e. says; long = λ e. let z : _≡_ {A = ℕ} 0 1 = cc in absurd (omega arith) }
-
-pub held-long : {book : Book} {entryPlaces pricePlaces : ℕ} {r : BookPlan} → placesShort book entryPlaces pricePlaces ≡ false → PlanOf book r → HeldPlanned book entryPlaces pricePlaces r
-held-long t plan = record { short = λ e. let z : _≡_ {A = ℕ} 0 1 = cc in absurd (omega arith); long = λ e. plan }
 
 -- a held book of shape 1 is a line, and any other a ring
 abbrev pub held-line :
@@ -140,6 +80,72 @@ held-ring other held =
       channels-is = sym (held .channels-is);
       holds = held .holds;
     }
+
+-- what the planner of its shape answers is the plan of the book
+module _ {net : Network} {n : ℕ} {limits a b profits : List ℕ} (held : HeldBook net n limits a b profits) {entries prices : List ℕ} {solved : Solved} {answer : Answer} where
+  plan-of :
+      {earned number shown : ℕ} → solved ≡ Solving.the-variants.Planned earned number → answer ≡ answered solved shown → Planned (held .book) (at entries) earned number shown
+      → (held .book .shape ≡ 1 → Priced (held .book) (at entries) (at prices)) → PlanOf (held .book) (beside net n a b (record { answer = answer; entries = entries; prices = prices }))
+  unfolding answered spans
+  plan-of {earned} {number} {shown} solved-is says planned priced =
+      record {
+        earned = earned;
+        number = number;
+        cut = shown;
+        says = says ∙ ap (λ (s : Solved). answered s shown) solved-is;
+        planned = planned;
+        priced = priced;
+        sound = held .sound;
+        shape-is = sym (held .shape-is);
+        spans-is = rw (held .shape-is, held .nodes-is);
+        count-is = held .holds .counted;
+        a-is = λ i h. held .holds .a-is i (omega (arith, held .holds .counted));
+        b-is = λ i h. held .holds .b-is i (omega (arith, held .holds .counted));
+      }
+
+  pub on-line : net .shape ≡ 1 → LinePlanned (held .book) solved entries prices → answer ≡ answered solved 65535 → PlanOf (held .book) (beside net n a b (record { answer = answer; entries = entries; prices = prices }))
+  on-line e made says =
+      let line = held-line e held .held .line .line in
+      plan-of (made .says) says
+      (record {
+        fair = made .best-plan .fair;
+        best-there = rw (line-plan (held .book) line) (made .best-plan);
+        channels = rw (line-plan (held .book) line) (made .by-rule);
+        earned-is = refl;
+        number-is = refl;
+        cut-is = sym (line-shown (held .book) line);
+      })
+      (λ l. record { small = made .prices-upto; accepted = made .accepted })
+
+  pub on-ring :
+      {shown : ℕ} → (net .shape ≡ 1 → ⊥) → RingPlanned (held .book) solved shown entries → answer ≡ answered solved shown
+      → PlanOf (held .book) (beside net n a b (record { answer = answer; entries = entries; prices = prices }))
+  on-ring other made says =
+      let ring = held-ring other held .ring .ring in
+      plan-of (made .says) says
+      (record {
+        fair = made .fair;
+        best-there = rw (ring-plan (held .book) ring) (made .best-plan);
+        channels = rw (ring-plan (held .book) ring) (made .by-rule);
+        earned-is = refl;
+        number-is = refl;
+        cut-is = made .cut-is ∙ sym (ring-shown (held .book) ring);
+      })
+      (λ l. absurd (omega (arith, ring)))
+
+-- the test of 12 on the numbers that hold the book
+pub short-is :
+    {net : Network} {n spansN : ℕ} {limits a b profits : List ℕ} {t : Bool} (entryPlaces pricePlaces : ℕ) (held : HeldBook net n limits a b profits) → spansN ≡ spansOf (net .shape) (net .nodes)
+    → t ≡ (ltb entryPlaces n || (eqb (net .shape) 1 && ltb pricePlaces spansN)) → placesShort (held .book) entryPlaces pricePlaces ≡ t
+unfolding placesShort spans count
+short-is entryPlaces pricePlaces held s e = rw (held .shape-is, held .nodes-is, ← held .holds .counted, e, s)
+
+-- 12, and a plan where it is not 12
+pub held-short : {book : Book} {entryPlaces pricePlaces : ℕ} {r : BookPlan} → placesShort book entryPlaces pricePlaces ≡ true → Refusing (record { number = 12; place = 0 }) r → HeldPlanned book entryPlaces pricePlaces r
+held-short t says = record { short = λ e. says; long = λ e. let z : _≡_ {A = ℕ} 0 1 = cc in absurd (omega arith) }
+
+pub held-long : {book : Book} {entryPlaces pricePlaces : ℕ} {r : BookPlan} → placesShort book entryPlaces pricePlaces ≡ false → PlanOf book r → HeldPlanned book entryPlaces pricePlaces r
+held-long t plan = record { short = λ e. let z : _≡_ {A = ℕ} 0 1 = cc in absurd (omega arith); long = λ e. plan }
 
 -- ---- any file
 

@@ -5,10 +5,8 @@ ghost use mathlib.Core.Bool.{_&&_, _||_};
 ghost use lib.Dec.{eqb, ltb};
 ghost use Rattle.reader.specs.Says.{bookFrom};
 ghost use Rattle.columns.specs.Seam.{HeldBook, LentBook};
-ghost use Rattle.line.specs.Promise.{CanPlanLine};
-ghost use Rattle.ring.specs.Promise.{CanPlanRing};
 ghost use Rattle.planner.specs.Promise.{answered, Refusing, PlanOf, BookPlanned};
-ghost use Rattle.planner.specs.Held.{HeldPlanned};
+ghost use Rattle.planner.specs.Held.{beside, HeldPlanned};
 use columns::RequestColumns;
 use line::Solved;
 use reader::Network;
@@ -84,61 +82,42 @@ fn short(shape: usize, spans: usize, count: usize, entry_places: usize, price_pl
     false
 }
 
-// The plan of an accepted line.
-fn plan_on_line(
-    nodes: usize,
-    channels: usize,
-    count: usize,
-    limits: [usize; 64],
-    cols: RequestColumns,
-) -> BookPlan
-    requires { ⌜ CanPlanLine nodes channels count limits (cols .a) (cols .b) (cols .profit) ⌝ }
-    ensures { λ r. ⌜ ((w : CanPlanLine nodes channels count limits (cols .a) (cols .b) (cols .profit)) → PlanOf (w .book) r) ⌝ }
-{
-    let a = cols.a;
-    let b = cols.b;
-    let profit = cols.profit;
-    let plan = line::plan_line(nodes, channels, count, &limits, &a, &b, &profit);
-    let solved = plan.answer;
-    let entries = plan.entries;
-    let prices = plan.prices;
-    BookPlan {
-        answer: answer_of(solved, 65535),
-        shape: 1,
-        spans: nodes - 1,
-        count: count,
-        a: a,
-        b: b,
-        entries: entries,
-        prices: prices,
-    }
+// What the planner of a line or of a ring finds: the answer, an entry for each request and, on a line, a price for each span.
+struct Found {
+    answer: Answer,
+    entries: [usize; 256],
+    prices: [usize; 64],
 }
 
-// The plan of an accepted ring, which has no prices.
-fn plan_on_ring(
-    nodes: usize,
-    channels: usize,
+// The plan of an accepted line, or of an accepted ring, which has no prices.
+fn find(
+    net: Network,
     count: usize,
-    limits: [usize; 64],
-    cols: RequestColumns,
-) -> BookPlan
-    requires { ⌜ CanPlanRing nodes channels count limits (cols .a) (cols .b) (cols .profit) ⌝ }
-    ensures { λ r. ⌜ ((w : CanPlanRing nodes channels count limits (cols .a) (cols .b) (cols .profit)) → PlanOf (w .book) r) ⌝ }
+    limits: &[usize; 64],
+    a: &[usize; 256],
+    b: &[usize; 256],
+    profit: &[usize; 256],
+) -> Found
+    requires { ⌜ HeldBook net count (now limits) (now a) (now b) (now profit) ⌝ }
+    ensures { λ r. ⌜ ((held : HeldBook net count (now (limits .entry)) (now (a .entry)) (now (b .entry)) (now (profit .entry))) → PlanOf (held .book) (beside net count (now (a .entry)) (now (b .entry)) r)) ⌝ }
 {
-    let a = cols.a;
-    let b = cols.b;
-    let profit = cols.profit;
-    let plan = ring::plan_ring(nodes, channels, count, &limits, &a, &b, &profit);
+    if net.shape == 1 {
+        let plan = line::plan_line(net.nodes, net.channels, count, limits, a, b, profit);
+        let solved = plan.answer;
+        let entries = plan.entries;
+        let prices = plan.prices;
+        return Found {
+            answer: answer_of(solved, 65535),
+            entries,
+            prices,
+        };
+    }
+    let plan = ring::plan_ring(net.nodes, net.channels, count, limits, a, b, profit);
     let solved = plan.answer;
     let entries = plan.entries;
-    BookPlan {
+    Found {
         answer: answer_of(solved, plan.cut),
-        shape: 2,
-        spans: nodes,
-        count: count,
-        a: a,
-        b: b,
-        entries: entries,
+        entries,
         prices: [0usize; 64],
     }
 }
@@ -162,10 +141,23 @@ fn plan_held(
             place: 0,
         });
     }
-    if net.shape == 1 {
-        return plan_on_line(net.nodes, net.channels, count, limits, cols);
+    let a = cols.a;
+    let b = cols.b;
+    let profit = cols.profit;
+    let found = find(net, count, &limits, &a, &b, &profit);
+    let answer = found.answer;
+    let entries = found.entries;
+    let prices = found.prices;
+    BookPlan {
+        answer,
+        shape: net.shape,
+        spans,
+        count,
+        a,
+        b,
+        entries,
+        prices,
     }
-    plan_on_ring(net.nodes, net.channels, count, limits, cols)
 }
 
 // The plan of an accepted book whose requests are lent, or 12.

@@ -9,7 +9,7 @@ use borrow.Author.Tests.{lt-ltb, ltb-true, ltb-false}
 use lib.ListN.{length}
 use lib.Dec.{ltb}
 use Rattle.sums.specs.Each.{decided}
-use Rattle.book.specs.Bytes.{blank}
+use Rattle.book.specs.Bytes.{byte, two, blank}
 use Rattle.book.specs.Refusals.{start, present, kindIn, markIn, numberIn, shapeIn, nodesIn, channelsIn, limitIn, aIn, bIn, profitIn}
 use Rattle.reader.specs.declared.Refusal.{Refusal}
 use Rattle.reader.specs.declared.Reading.{Reading}
@@ -19,8 +19,13 @@ use Rattle.reader.specs.declared.Record.the-variants as kind
 use Rattle.reader.specs.declared.Network.{Network}
 use Rattle.reader.specs.declared.Span.{Span}
 use Rattle.reader.specs.declared.Request.{Request}
+use Rattle.reader.specs.declared.records.Head.{Head}
 use Rattle.reader.specs.Tests.{Test, _⇒_, lowest}
 use Rattle.reader.specs.Judged.{wrongCount, networkTests, spanTests, requestTests}
+
+-- what a record of any kind begins with, at an offset: the fields that a kind has there are these (`kindIn`, `markIn`, `numberIn`, ..)
+abbrev pub headAt : List ℕ → ℕ → Head
+headAt f at = record { kind = byte f at; mark = byte f (at + 1); first = two f (at + 2); second = two f (at + 4) }
 
 -- a record that breaks a row is refused by that row's number at its place
 unfoldable pub answer : (row place : ℕ) → Record → Reading

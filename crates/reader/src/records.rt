@@ -21,6 +21,26 @@ pub enum Due {
     Request { before: usize, nodes: usize },
 }
 
+// The first six bytes of a record, laid out alike in all three kinds: two bytes and two numbers of two bytes.
+struct Head {
+    kind: usize,
+    mark: usize,
+    first: usize,
+    second: usize,
+}
+
+fn head_at(file: &[u8], at: usize) -> Head
+    requires { ⌜ at + 6 ≤ length (now file) ⌝ }
+    ensures { λ r. ⌜ r ≡ R.headAt (now (file .entry)) at ⌝ }
+{
+    Head {
+        kind: bytes::byte(file, at),
+        mark: bytes::byte(file, at + 1),
+        first: bytes::two(file, at + 2),
+        second: bytes::two(file, at + 4),
+    }
+}
+
 // A record that breaks a row is refused at its place.
 fn answer(row: usize, place: usize, got: Record) -> Reading
     ensures { λ r. ⌜ r ≡ R.answer row place got ⌝ }
@@ -41,14 +61,14 @@ fn network_at(file: &[u8]) -> Reading
             place: 0,
         });
     }
-    let kind = bytes::byte(file, 0);
+    let head = head_at(file, 0);
     let network = Network {
-        shape: bytes::byte(file, 1),
-        nodes: bytes::two(file, 2),
-        channels: bytes::two(file, 4),
+        shape: head.mark,
+        nodes: head.first,
+        channels: head.second,
     };
     let rest = bytes::blank(file, 6, 10);
-    let row = judge::network(kind, network, rest);
+    let row = judge::network(head.kind, network, rest);
     answer(row, 0, Record::Network(network))
 }
 
@@ -64,14 +84,13 @@ fn span_at(file: &[u8], index: usize, channels: usize) -> Reading
         });
     }
     let at = 16 * index;
-    let kind = bytes::byte(file, at);
-    let mark = bytes::byte(file, at + 1);
+    let head = head_at(file, at);
     let span = Span {
-        number: bytes::two(file, at + 2),
-        limit: bytes::two(file, at + 4),
+        number: head.first,
+        limit: head.second,
     };
     let rest = bytes::blank(file, at + 6, 10);
-    let row = judge::span(index - 1, channels, kind, mark, span, rest);
+    let row = judge::span(index - 1, channels, head.kind, head.mark, span, rest);
     answer(row, index, Record::Span(span))
 }
 
@@ -81,16 +100,15 @@ fn request_at(part: &[u8], i: usize, before: usize, nodes: usize) -> Reading
     ensures { λ r. ⌜ r ≡ R.requestAt (now (part .entry)) i before nodes ⌝ }
 {
     let at = 16 * i;
-    let kind = bytes::byte(part, at);
-    let mark = bytes::byte(part, at + 1);
+    let head = head_at(part, at);
     let request = Request {
-        number: bytes::two(part, at + 2),
-        a: bytes::two(part, at + 4),
+        number: head.first,
+        a: head.second,
         b: bytes::two(part, at + 6),
         profit: bytes::four(part, at + 8),
     };
     let rest = bytes::blank(part, at + 12, 4);
-    let row = judge::request(i, nodes, kind, mark, request, rest);
+    let row = judge::request(i, nodes, head.kind, head.mark, request, rest);
     answer(row, before + i, Record::Request(request))
 }
 

@@ -19,38 +19,20 @@ returns c = sym (answer-first _ 1 _ 0 _ (sym (c .before .count-wrong .ensures) �
 long : (c : tie.Else1) → 16 ≤ length (now (c .before .before .before .args .file))
 long c = one-record _ (sym (c .before .count-wrong .ensures) ∙ c .if1 .left)
 
-byte-requires : tie.Need-byte-requires
-byte-requires c κs = omega (arith, long c)
-
-byte-requires-2 : tie.Need-byte-requires-2
-byte-requires-2 c κs = omega (arith, long (c .before))
-
-two-requires : tie.Need-two-requires
-two-requires c κs = omega (arith, long (c .before .before))
-
-two-requires-2 : tie.Need-two-requires-2
-two-requires-2 c κs = omega (arith, long (c .before .before .before))
+head-at-requires : tie.Need-head-at-requires
+head-at-requires c κs = omega (arith, long c)
 
 blank-requires : tie.Need-blank-requires
-blank-requires c κs = omega (arith, long (c .before .before .before .before))
+blank-requires c κs = omega (arith, long (c .before))
 
 returns-2 : tie.Need-returns-2
 unfolding networkAt networkRow kindIn shapeIn nodesIn channelsIn start
 returns-2 c =
-    let fields = c .before .before in
-    let head = fields .before .before in
-    let tested = head .before .before .before in
+    let rest = c .before .before in
+    let tested = rest .before .before in
     sym
     (answer-rest _ 1 _ 0 _ (sym (tested .before .count-wrong .ensures) ∙ tested .if1 .left)
-    ∙ simp (
-      c .answer .ensures,
-      c .before .network .ensures,
-      fields .blank .ensures,
-      fields .before .two2 .ensures .0,
-      head .two .ensures .0,
-      head .before .byte2 .ensures .0,
-      head .before .before .byte .ensures .0,
-    ))
+    ∙ simp (c .answer .ensures, c .before .network .ensures, rest .blank .ensures, rest .before .head-at .ensures))
 
 pub network-at-spec : {M : Type 1} → statement M
 network-at-spec =
@@ -58,10 +40,7 @@ network-at-spec =
     (tie.spec
     (λ c κs. search needs)
     returns
-    byte-requires
-    byte-requires-2
-    two-requires
-    two-requires-2
+    head-at-requires
     blank-requires
     (λ c κs. search needs)
     (λ c κs. search needs)

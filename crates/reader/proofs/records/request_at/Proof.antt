@@ -8,31 +8,14 @@ use Rattle.reader.proofs.records.request_at.Tie as tie
 returns : tie.Need-returns
 unfolding requestAt requestRow kindIn markIn numberIn aIn bIn profitIn start
 returns c =
-    let fields = c .before .before in
-    let ends = fields .before .before in
-    let head = ends .before .before in
-    simp (
-      c .answer .ensures,
-      c .before .request .ensures,
-      fields .blank .ensures,
-      fields .before .four .ensures,
-      ends .two3 .ensures .0,
-      ends .before .two2 .ensures .0,
-      head .two .ensures .0,
-      head .before .byte2 .ensures .0,
-      head .before .before .byte .ensures .0,
-    )
+    let rest = c .before .before in
+    let ends = rest .before .before in
+    simp (c .answer .ensures, c .before .request .ensures, rest .blank .ensures, rest .before .four .ensures, ends .two .ensures .0, ends .before .head-at .ensures)
 
 pub request-at-spec : {M : Type 1} → statement M
 request-at-spec =
     tie.close
     (tie.spec
-    (λ c. search needs)
-    (λ c κs. search needs)
-    (λ c. search needs)
-    (λ c κs. search needs)
-    (λ c. search needs)
-    (λ c κs. search needs)
     (λ c. search needs)
     (λ c κs. search needs)
     (λ c. search needs)

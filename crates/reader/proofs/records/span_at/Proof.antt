@@ -15,31 +15,16 @@ returns c = sym (answer-first _ 5 _ _ _ (rw (le-ltb _ _ (c .if1 .taken))) (omega
 returns-2 : tie.Need-returns-2
 unfolding spanAt spanRow kindIn markIn numberIn limitIn start present records
 returns-2 c =
-    let fields = c .before .before in
-    let head = fields .before .before in
+    let rest = c .before .before in
     sym
-    (answer-rest _ 5 _ _ _ (rw (lt-ltb _ _ (head .before .before .before .if1 .left)))
-    ∙ simp (
-      c .answer .ensures,
-      c .before .span .ensures,
-      fields .blank .ensures,
-      fields .before .two2 .ensures .0,
-      head .two .ensures .0,
-      head .before .byte2 .ensures .0,
-      head .before .before .byte .ensures .0,
-    ))
+    (answer-rest _ 5 _ _ _ (rw (lt-ltb _ _ (rest .before .before .if1 .left)))
+    ∙ simp (c .answer .ensures, c .before .span .ensures, rest .blank .ensures, rest .before .head-at .ensures))
 
 pub span-at-spec : {M : Type 1} → statement M
 span-at-spec =
     tie.close
     (tie.spec
     returns
-    (λ c. search needs)
-    (λ c κs. search needs)
-    (λ c. search needs)
-    (λ c κs. search needs)
-    (λ c. search needs)
-    (λ c κs. search needs)
     (λ c. search needs)
     (λ c κs. search needs)
     (λ c. search needs)
