@@ -101,7 +101,7 @@ void solve(const Columns &cols, Solved &s)
     bool keeps[256] = {};
     lay(cols, s.by_number);
     make_room(cells, cols.limits, s.room);
-    order::ordered(cols.count, s.by_number.lo, s.by_number.hi, cols.profit, order, place);
+    order::ordered(cols.nodes - 1, cols.count, cols.limits, s.by_number.lo, s.by_number.hi, cols.profit, order, place);
     arrange(cols.count, order, s.by_number, arranged);
     planrow::plan_row(cells, cols.count, arranged.lo, arranged.hi, arranged.cost, keeps, s.room, s.dist);
     put_back(cols.count, place, keeps, s.kept);

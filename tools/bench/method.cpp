@@ -6,7 +6,7 @@ namespace {
 using Cells = size_t[128];
 using Arcs = size_t[256];
 
-// What a search stands on, and what it leaves.
+// What a search stands on, and what it leaves: made once, since no search looks at what the one before left.
 struct Ground {
     size_t cells;
     const size_t *lo, *hi;
@@ -166,7 +166,7 @@ void link(size_t t, const size_t *ends, size_t *head, size_t *next)
     next[t] = head[v], head[v] = t + 1;
 }
 
-void insert(Ground &g, size_t t)
+void insert(Ground &g, Search &s, size_t t)
 {
     size_t a = g.lo[t], b = g.hi[t];
     if (room_between(g.room, a, b)) {
@@ -177,7 +177,6 @@ void insert(Ground &g, size_t t)
     size_t gain = gain_of(g.cost[t], g.dist[a], g.dist[b]);
     g.kept[t] = false;
     if (gain == 0) return;
-    Search s = {};
     s.most = gain;
     if (search(g, s, a, b)) {
         deepen(g, s.label, s.label[a]);
@@ -192,9 +191,10 @@ void insert(Ground &g, size_t t)
 void plan_row(size_t cells, size_t count, const size_t *lo, const size_t *hi, const int64_t *cost, bool *kept, size_t *room, int64_t *dist)
 {
     Ground g = {cells, lo, hi, cost, kept, room, dist, {}, {}, {}, {}};
+    Search s = {};
     level(dist, cells);
     for (size_t t = 0; t < count; t++) {
-        insert(g, t);
+        insert(g, s, t);
         link(t, lo, g.head_lo, g.next_lo);
         link(t, hi, g.head_hi, g.next_hi);
     }

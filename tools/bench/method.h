@@ -24,7 +24,15 @@ void plan_row(size_t cells, size_t count, const size_t *lo, const size_t *hi, co
 }
 // order.cpp
 namespace order {
-void ordered(size_t count, const size_t *lo, const size_t *hi, const size_t *profit, size_t *order, size_t *place);
+struct Extremes {
+    size_t least, greatest;
+};
+Extremes range(size_t count, const size_t *list);
+// guess.cpp
+namespace guess {
+size_t weigh(size_t cells, size_t count, const size_t *limits, const size_t *lo, const size_t *hi, const size_t *profit, size_t least, size_t greatest, size_t *worths);
+}
+void ordered(size_t cells, size_t count, const size_t *limits, const size_t *lo, const size_t *hi, const size_t *profit, size_t *order, size_t *place);
 }
 // line.cpp, with crates/channels
 namespace line {

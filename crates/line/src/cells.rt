@@ -121,7 +121,7 @@ pub fn solve(
     let mut keep = [false; 256];
     lay(count, a, b, profit, lo, hi, &mut cost);
     make_room(cells, limits, &mut room);
-    order::ordered(count, lo, hi, profit, &mut order, &mut place);
+    order::ordered(cells, count, limits, lo, hi, profit, &mut order, &mut place);
     arrange(count, &order, lo, hi, &cost, &mut los, &mut his, &mut costs);
     planrow::plan_row(cells, count, &los, &his, &costs, &mut keep, &mut room, dist);
     put_back(count, &place, &keep, kept);

@@ -29,12 +29,12 @@ pub record Looking (g : Ground) (a b most : ℕ) (rank : List ℕ) (m : Marks) (
   pub count : clock + openNodes (g .row .cells) rank ≡ g .row .cells + 2
   pub ranks : length rank ≡ 128
 
-pub look : {g : Ground} {a b most : ℕ} {label rank by from list : List ℕ} →
-    g .row .cells ≤ 127 → a ≤ g .row .cells → b ≤ g .row .cells → 0 < most → length rank ≡ 128 → length list ≡ 128 → at list 0 ≡ b →
-    Fresh (g .row .cells) b most label rank → Looking g a b most rank (marks label by from list 1) 0 1
-look {g} {a} {b} {rank = rank} small a-in b-in some ranks long head f = record {
+pub look : {g : Ground} {a b most : ℕ} {label rank by from : List ℕ} (list : List ℕ) →
+    g .row .cells ≤ 127 → a ≤ g .row .cells → b ≤ g .row .cells → 0 < most → length rank ≡ 128 → length list ≡ 128 →
+    Fresh (g .row .cells) b most label rank → Looking g a b most rank (marks label by from (set list 0 b) 1) 0 1
+look {g} {a} {b} {rank = rank} list small a-in b-in some ranks long f = record {
   searching = search-start (f .root) (f .others) (f .still);
-  listed = listed-start small long head b-in (f .still b b-in) (omega (arith, f .root)) (f .others);
+  listed = listed-start small (length-set list 0 b ∙ long) (getD-set-same list 0 b 0 (omega arith)) b-in (f .still b b-in) (omega (arith, f .root)) (f .others);
   above = λ w i z. omega arith;
   still = f .still a a-in;
   count = omega (arith, open-all (g .row .cells) rank (f .still));

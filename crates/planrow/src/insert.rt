@@ -97,7 +97,7 @@ pub fn link(
     head[v] = t + 1;
 }
 
-// Inserts candidate t.
+// Inserts candidate t. The last five arrays are for its search: what they held before plays no part.
 pub fn insert(
     cells: usize,
     t: usize,
@@ -111,6 +111,11 @@ pub fn insert(
     next_lo: &[usize; 256],
     head_hi: &[usize; 128],
     next_hi: &[usize; 256],
+    label: &mut [usize; 128],
+    rank: &mut [usize; 128],
+    by: &mut [usize; 128],
+    from: &mut [usize; 128],
+    list: &mut [usize; 128],
 )
     requires { ⌜ CanInsert cells t (now lo) (now hi) (now cost) (now kept) (now room) (now dist) (now «head_lo») (now «next_lo») (now «head_hi») (now «next_hi») ⌝ }
     ensures { λ r. ⌜ ((w : CanInsert cells t (now (lo .entry)) (now (hi .entry)) (now (cost .entry)) (now (kept .entry)) (now (room .entry)) (now (dist .entry)) (now («head_lo» .entry)) (now («next_lo» .entry)) (now («head_hi» .entry)) (now («next_hi» .entry))) → Standing (w .limit) (w .count) cells (suc t) (now (lo .entry)) (now (hi .entry)) (now (cost .entry)) (now (kept .exit)) (now (room .exit)) (now (dist .exit))) ⌝ }
@@ -129,10 +134,6 @@ pub fn insert(
         kept[t] = false;
         return;
     }
-    let mut label = [0usize; 128];
-    let mut rank = [0usize; 128];
-    let mut by = [0usize; 128];
-    let mut from = [0usize; 128];
     if search::search(
         cells,
         t,
@@ -149,17 +150,18 @@ pub fn insert(
         a,
         b,
         gain,
-        &mut label,
-        &mut rank,
-        &mut by,
-        &mut from,
+        label,
+        rank,
+        by,
+        from,
+        list,
     ) {
         let near = label[a];
-        deepen(dist, &label, cells, near);
+        deepen(dist, label, cells, near);
         kept[t] = true;
-        walk::walk_back(kept, room, &rank, &by, &from, a, b);
+        walk::walk_back(kept, room, rank, by, from, a, b);
         return;
     }
-    deepen(dist, &label, cells, gain);
+    deepen(dist, label, cells, gain);
     kept[t] = false;
 }

@@ -27,6 +27,12 @@ pub fn plan_row(
     let mut next_lo = [0usize; 256];
     let mut head_hi = [0usize; 128];
     let mut next_hi = [0usize; 256];
+    // what each search writes, made once
+    let mut label = [0usize; 128];
+    let mut rank = [0usize; 128];
+    let mut by = [0usize; 128];
+    let mut from = [0usize; 128];
+    let mut list = [0usize; 128];
     insert::level(dist, cells);
     let mut t = 0;
     while t < count {
@@ -43,6 +49,11 @@ pub fn plan_row(
             &next_lo,
             &head_hi,
             &next_hi,
+            &mut label,
+            &mut rank,
+            &mut by,
+            &mut from,
+            &mut list,
         );
         insert::link(cells, t, lo, &mut head_lo, &mut next_lo);
         insert::link(cells, t, hi, &mut head_hi, &mut next_hi);

@@ -144,7 +144,8 @@ pub fn spread(
     )
 }
 
-// Searches for a way from b to a that is shorter than `most`. True where there is one: then by and from lead back from a to b.
+// Searches for a way from b to a that is shorter than `most`. True where there is one: then by and from lead back from a to b. What its arrays
+// held before plays no part; `list` is for the nodes that have a label and are not settled.
 pub fn search(
     cells: usize,
     t: usize,
@@ -165,6 +166,7 @@ pub fn search(
     rank: &mut [usize; 128],
     by: &mut [usize; 128],
     from: &mut [usize; 128],
+    list: &mut [usize; 128],
 ) -> bool
     requires { ⌜ Ready cells t (now lo) (now hi) (now cost) (now kept) (now room) (now dist) ⌝ }
     requires { ⌜ Chained cells t (now lo) (now «head_lo») (now «next_lo») ⌝ }
@@ -173,10 +175,9 @@ pub fn search(
     ensures { λ r. ⌜ Searched (groundIn cells t (now (lo .entry)) (now (hi .entry)) (now (cost .entry)) (now (kept .entry)) (now (room .entry)) (now (dist .entry))) a b most (now (label .exit)) (now (rank .exit)) (now (by .exit)) (now (from .exit)) r ⌝ }
 {
     start(cells, b, most, label, rank);
-    // how many places rank has, as `start` left it
+    // how many places rank has, as `start` left it, and the list
     let ranks = &rank[..];
-    // the nodes that have a label and are not settled
-    let mut list = [0usize; 128];
+    let places = &list[..];
     list[0] = b;
     let mut size = 1;
     // the label of the last node settled
@@ -186,7 +187,7 @@ pub fn search(
         if size == 0 {
             return false;
         }
-        let i = nearest(label, &list, size, floor);
+        let i = nearest(label, list, size, floor);
         let u = list[i];
         size -= 1;
         list[i] = list[size];
@@ -211,7 +212,7 @@ pub fn search(
             label,
             by,
             from,
-            &mut list,
+            list,
             size,
             u,
         );

@@ -10,11 +10,11 @@ use Rattle.planrow.proofs.plan_row.Statement.{statement}
 use Rattle.planrow.proofs.plan_row.Tie as tie
 
 abbrev Inv-loop : tie.InvT-loop
-Inv-loop cells count lo hi cost kept₀ room₀ dist₀ head-lo₀ next-lo₀ head-hi₀ next-hi₀ t₀ kept room dist head-lo next-lo head-hi next-hi t =
+Inv-loop cells count lo hi cost kept₀ room₀ dist₀ head-lo₀ next-lo₀ head-hi₀ next-hi₀ label₀ rank₀ by₀ from₀ list₀ t₀ kept room dist head-lo next-lo head-hi next-hi label rank by from list t =
     Planning (at room₀) count cells t lo hi cost kept room dist head-lo next-lo head-hi next-hi
 
 abbrev μ-loop : tie.MeasureT-loop
-μ-loop cells count lo hi cost kept₀ room₀ dist₀ head-lo₀ next-lo₀ head-hi₀ next-hi₀ t₀ kept room dist head-lo next-lo head-hi next-hi t =
+μ-loop cells count lo hi cost kept₀ room₀ dist₀ head-lo₀ next-lo₀ head-hi₀ next-hi₀ label₀ rank₀ by₀ from₀ list₀ t₀ kept room dist head-lo next-lo head-hi next-hi label rank by from list t =
     count - t
 
 level-requires : tie.Need-level-requires Inv-loop μ-loop
@@ -35,24 +35,24 @@ can-insert : (k : tie.In-loop Inv-loop μ-loop) → let a = entry k .args in let
 can-insert k = insertable (entry k .pre) (k .before .loop .inv) (k .loop-test .taken)
 
 insert-requires : tie.Need-insert-requires Inv-loop μ-loop
-insert-requires c κs = can-insert (c .before .before .before .before .before .before .before)
+insert-requires c κs = can-insert (c .before .before .before .before .before .before .before .before .before .before .before .before)
 
 link-requires : tie.Need-link-requires Inv-loop μ-loop
-link-requires c κs = let w = can-insert (c .before .before .before .before .before .before .before .before .before .before) in ((w .cells-upto, w .t-upto, first-in w), w .by-lo)
+link-requires c κs = let w = can-insert (c .before .before .before .before .before .before .before .before .before .before .before .before .before .before .before) in ((w .cells-upto, w .t-upto, first-in w), w .by-lo)
 
 link-requires-2 : tie.Need-link-requires-2 Inv-loop μ-loop
 link-requires-2 c κs =
-    let w = can-insert (c .before .before .before .before .before .before .before .before .before .before .before .before .before) in ((w .cells-upto, w .t-upto, inside w), w .by-hi)
+    let w = can-insert (c .before .before .before .before .before .before .before .before .before .before .before .before .before .before .before .before .before .before) in ((w .cells-upto, w .t-upto, inside w), w .by-hi)
 
 add-t : tie.Need-add-t Inv-loop μ-loop
-add-t c = omega (arith, can-insert (c .before .before .before .before .before .before .before .before .before .before .before .before .before .before) .t-upto)
+add-t c = omega (arith, can-insert (c .before .before .before .before .before .before .before .before .before .before .before .before .before .before .before .before .before .before .before) .t-upto)
 
 loop-less : tie.Need-loop-less Inv-loop μ-loop
-loop-less c = omega (arith, c .before .before .before .before .before .before .before .before .before .before .before .before .before .before .loop-test .taken)
+loop-less c = omega (arith, c .before .before .before .before .before .before .before .before .before .before .before .before .before .before .before .before .before .before .before .loop-test .taken)
 
 loop-again : tie.Need-loop-again Inv-loop μ-loop
 loop-again c =
-    let k = c .before .before .before .before .before .before .before .before .before .before .before .before .before .before in
+    let k = c .before .before .before .before .before .before .before .before .before .before .before .before .before .before .before .before .before .before .before in
     rw add-one (
     planning-goes-on (entry k .pre) (k .before .loop .inv) (k .loop-test .taken)
     (c .before .before .before .before .before .before .insert .ensures) (c .before .before .before .link .ensures) (c .link2 .ensures)

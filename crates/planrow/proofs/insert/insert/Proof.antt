@@ -15,7 +15,7 @@ use Rattle.planrow.proofs.insert.insert.Tie as tie
 
 -- from the search to the gain, from the gain to the slice, and to the entry
 abbrev gained : tie.After-search → tie.After-gain-of
-gained f = f .before .before .before .before .before .before .before .before .before
+gained f = f .before .before .before .before .before .before .before .before .before .before
 
 abbrev sliced : tie.After-gain-of → tie.After-flags2
 sliced g = g .before .before .before .before .before .before .before .before .before
@@ -44,7 +44,7 @@ gain-small : (g : tie.After-gain-of) → g .gain-of .result ≤ 1000000
 gain-small g = omega (arith, gain-is g, gain-upto (entry g .pre))
 
 gain-some : (f : tie.After-search) → gained f .gain-of .result ≡ 0 → ⊥
-gain-some f = f .before .before .before .before .before .before .before .before .if2 .left
+gain-some f = f .before .before .before .before .before .before .before .before .before .if2 .left
 
 -- ---- every cell has room: kept at once
 
@@ -85,31 +85,32 @@ returns-2 c w = dropped-unasked w (long (sliced (c .before))) (omega (arith, gai
 
 search-requires : tie.Need-search-requires
 search-requires c κs =
-    let g = c .before .before .before .before .before .before .before .before in let p = entry g .pre in (ready p, (p .by-lo, (p .by-hi, (first-in p, inside p, omega (arith, c .before .before .before .before .before .before .before .if2 .left), gain-small g))))
+    let i = c .before .before .before .before .before .before .before .before in let g = i .before in let p = entry g .pre in
+    (ready p, (p .by-lo, (p .by-hi, (first-in p, inside p, omega (arith, i .if2 .left), gain-small g))))
 
 mul-near : tie.Need-mul-near
 mul-near c = omega (arith, first-node (entry (gained (c .before))))
 
-array-read-near : tie.Need-array-read-near
-array-read-near c = first-node (entry (gained (c .before)))
+element-copy-out-near : tie.Need-element-copy-out-near
+element-copy-out-near c = first-node (entry (gained (c .before)))
 
 deepen-requires : tie.Need-deepen-requires
 deepen-requires c κs =
-    let f = c .before .before .before in let p = entry (gained f) .pre in
-    ((p .cells-upto, omega (arith, f .search .ensures .reached (c .before .before .if3 .taken) .shorter, gain-small (gained f))), ready p .dists)
+    let f = c .before .before .before .before in let p = entry (gained f) .pre in
+    ((p .cells-upto, omega (arith, f .search .ensures .reached (c .before .before .before .if3 .taken) .shorter, gain-small (gained f))), ready p .dists)
 
 element-write-kept-3 : tie.Need-element-write-kept-3
-element-write-kept-3 c = entry (gained (c .before .before .before .before)) .pre .t-upto
+element-write-kept-3 c = entry (gained (c .before .before .before .before .before)) .pre .t-upto
 
 walk-back-requires : tie.Need-walk-back-requires
 walk-back-requires c κs =
-    let f = c .before .before .before .before .before .before .before .before .before in let g = gained f in
-    walkable (entry g .pre) (long (sliced g)) (gain-is g) (gain-some f) (f .search .ensures) (c .before .before .before .before .before .before .before .before .if3 .taken)
+    let i = c .before .before .before .before .before .before .before .before .before in let f = i .before in let g = gained f in
+    walkable (entry g .pre) (long (sliced g)) (gain-is g) (gain-some f) (f .search .ensures) (i .if3 .taken)
 
 returns-3 : tie.Need-returns-3
 returns-3 c w =
-    let f = c .before .before .before .before .before .before .before .before .before .before in let g = gained f in
-    kept-by-walk w (long (sliced g)) (gain-is g) (gain-some f) (f .search .ensures) (c .before .before .before .before .before .before .before .before .before .if3 .taken)
+    let i = c .before .before .before .before .before .before .before .before .before .before in let f = i .before in let g = gained f in
+    kept-by-walk w (long (sliced g)) (gain-is g) (gain-some f) (f .search .ensures) (i .if3 .taken)
     (c .before .before .before .before .before .before .deepen .ensures) (c .walk-back .ensures)
 
 -- ---- no way back is short enough: dropped
@@ -148,7 +149,7 @@ insert-spec =
     returns-2
     search-requires
     mul-near
-    array-read-near
+    element-copy-out-near
     deepen-requires
     element-write-kept-3
     walk-back-requires

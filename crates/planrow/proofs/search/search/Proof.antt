@@ -1,6 +1,5 @@
 -- `planrow::search::search` meets its contract. The loop's invariant is `Looking`: the labels are those of a search, the list has the open nodes that have
 -- one, a is still open, and the clock and the open nodes come to one count, so the clock has only so far to go. Assumes nothing.
-use mathlib.Core.Path.{refl}
 use Prim.Native.Nat.{_+_, _-_, _≤_, _<_}
 use native.Mathlib.Omega.{arith}
 use Rattle.planrow.specs.State.{at, groundIn, marks}
@@ -21,15 +20,19 @@ start-requires c κs =
     let p = c .before .before .pre in
     (p .0 .cells-upto, p .1 .1 .1 .1)
 
+-- from the slices to the entry
+abbrev entry : tie.After-places2 Inv-loop μ-loop → tie.Start Inv-loop μ-loop
+entry c = c .before .before .before .before .before .before .before
+
 loop-holds : tie.Need-loop-holds Inv-loop μ-loop
 loop-holds c =
-    let p = c .before .before .before .before .before .pre in
+    let p = entry c .pre in
     let q = p .1 .1 .1 in
-    look (p .0 .cells-upto) (q .0) (q .1) (q .2) (omega arith) refl refl (c .before .before .start .ensures)
+    look (entry c .args .list .now) (p .0 .cells-upto) (q .0) (q .1) (q .2) (omega arith) (omega arith) (c .before .before .before .before .start .ensures)
 
 returns : tie.Need-returns Inv-loop μ-loop
 returns c =
-    let p = c .before .before .before .before .before .before .before .pre in
+    let p = entry (c .before .before) .pre in
     look-lost (c .before .loop .inv) (p .0 .deep) (p .0 .proper) (p .1 .1 .1 .0) (c .if1 .taken)
 
 nearest-requires : tie.Need-nearest-requires Inv-loop μ-loop
@@ -48,51 +51,52 @@ node-in c = omega (arith, look-node (turn c .loop .inv) (c .nearest .ensures), t
 mul-u : tie.Need-mul-u Inv-loop μ-loop
 mul-u c = omega (arith, place-in c)
 
-array-read-u : tie.Need-array-read-u Inv-loop μ-loop
-array-read-u c = omega (arith, place-in c)
+element-copy-out-u : tie.Need-element-copy-out-u Inv-loop μ-loop
+element-copy-out-u c = omega (arith, place-in c)
 
 mul-list : tie.Need-mul-list Inv-loop μ-loop
-mul-list c = omega (arith, place-in c)
+mul-list c = omega (arith, place-in (c .before))
 
-array-read-list : tie.Need-array-read-list Inv-loop μ-loop
-array-read-list c = omega (arith, place-in c)
+element-copy-out-list : tie.Need-element-copy-out-list Inv-loop μ-loop
+element-copy-out-list c = omega (arith, place-in (c .before))
 
 mul-list-2 : tie.Need-mul-list-2 Inv-loop μ-loop
-mul-list-2 c = omega (arith, place-in c)
+mul-list-2 c = omega (arith, place-in (c .before .before))
 
-array-write-list-2 : tie.Need-array-write-list-2 Inv-loop μ-loop
-array-write-list-2 c = omega (arith, place-in c)
+element-write-list-2 : tie.Need-element-write-list-2 Inv-loop μ-loop
+element-write-list-2 c = omega (arith, place-in (c .before .before))
 
 mul-rank : tie.Need-mul-rank Inv-loop μ-loop
-mul-rank c = omega (arith, node-in c)
+mul-rank c = omega (arith, node-in (c .before .before))
 
 element-write-rank : tie.Need-element-write-rank Inv-loop μ-loop
-element-write-rank c = node-in c
+element-write-rank c = node-in (c .before .before)
 
 returns-2 : tie.Need-returns-2 Inv-loop μ-loop
 returns-2 c =
-    let l = turn (c .before) in
-    let p = l .before .before .before .before .before .before .pre in
-    look-found (l .loop .inv) (c .before .nearest .ensures) (p .0 .deep) (p .0 .proper) (c .if2 .taken)
+    let e = c .before .before .before in
+    let l = turn e in
+    let p = entry (l .before) .pre in
+    look-found (l .loop .inv) (e .nearest .ensures) (p .0 .deep) (p .0 .proper) (c .if2 .taken)
 
 -- the label of the nearest node is below `most`
 spread-requires : tie.Need-spread-requires Inv-loop μ-loop
 spread-requires c κs =
-    let e = c .before .before .before .before .before in
+    let e = c .before .before .before .before .before .before .before in
     let l = turn e in
-    let p = l .before .before .before .before .before .before .pre in
+    let p = entry (l .before) .pre in
     (p .0, ((look-node (l .loop .inv) (e .nearest .ensures), omega (arith, look-near (l .loop .inv) (e .nearest .ensures), p .1 .1 .1)), (p .1 .0, p .1 .1 .0)))
 
 mul-floor : tie.Need-mul-floor Inv-loop μ-loop
-mul-floor c = omega (arith, node-in (c .before .before .before .before .before .before))
+mul-floor c = omega (arith, node-in (c .before .before .before .before .before .before .before .before))
 
 element-copy-out-floor : tie.Need-element-copy-out-floor Inv-loop μ-loop
-element-copy-out-floor c = node-in (c .before .before .before .before .before .before)
+element-copy-out-floor c = node-in (c .before .before .before .before .before .before .before .before)
 
 loop-again : tie.Need-loop-again Inv-loop μ-loop
 loop-again c =
     let i = c .before .before .before .before .before .before in
-    let e = i .before in
+    let e = i .before .before .before in
     look-on (turn e .loop .inv) (e .nearest .ensures) (i .if2 .left) (c .before .spread .ensures)
 
 -- the clock moves by one in a turn, and stays within the count
@@ -114,12 +118,12 @@ search-spec =
     returns
     nearest-requires
     mul-u
-    array-read-u
+    element-copy-out-u
     (λ c. omega arith)
     mul-list
-    array-read-list
+    element-copy-out-list
     mul-list-2
-    array-write-list-2
+    element-write-list-2
     mul-rank
     element-write-rank
     returns-2

@@ -1,18 +1,18 @@
--- Only that it is safe is asked: each index is below count, or tested. Assumes nothing.
+-- Only that it is safe is asked: each index is below count. Assumes nothing.
 use Prim.Native.Nat.{_-_, _≤_}
 use native.Mathlib.Omega.{arith}
 use borrow.Author.Needs.{needs}
-use Rattle.order.proofs.tally.Statement.{statement}
-use Rattle.order.proofs.tally.Tie as tie
+use Rattle.order.proofs.worth.weigh.Statement.{statement}
+use Rattle.order.proofs.worth.weigh.Tie as tie
 
 abbrev Inv-loop : tie.InvT-loop
-Inv-loop count scale worths₀ tallies₀ i₀ worths tallies i = i ≤ count
+Inv-loop count lo hi profit least lift worths₀ top₀ i₀ worths top i = i ≤ count
 
 abbrev μ-loop : tie.MeasureT-loop
-μ-loop count scale worths₀ tallies₀ i₀ worths tallies i = count - i
+μ-loop count lo hi profit least lift worths₀ top₀ i₀ worths top i = count - i
 
-pub tally-spec : {M : Type 1} → statement M
-tally-spec =
+pub weigh-spec : {M : Type 1} → statement M
+weigh-spec =
     tie.close
     (tie.spec
     Inv-loop
@@ -20,12 +20,11 @@ tally-spec =
     (λ c. omega arith)
     (λ c. omega arith)
     (λ c. omega arith)
+    (λ c. omega arith)
+    (λ c. omega arith)
+    (λ c. omega arith)
+    (λ c. omega arith)
     (λ c κs. search needs)
-    (λ c. omega arith)
-    (λ c. omega arith)
-    (λ c. omega arith)
-    (λ c. omega arith)
-    (λ c. omega arith)
     (λ c. omega arith)
     (λ c. omega arith)
     (λ c. omega arith)

@@ -2,14 +2,14 @@
 use Prim.Native.Nat.{_-_, _≤_}
 use native.Mathlib.Omega.{arith}
 use borrow.Author.Needs.{needs}
-use Rattle.order.proofs.range.Statement.{statement}
-use Rattle.order.proofs.range.Tie as tie
+use Rattle.order.proofs.worth.range.Statement.{statement}
+use Rattle.order.proofs.worth.range.Tie as tie
 
 abbrev Inv-loop : tie.InvT-loop
-Inv-loop count profit least₀ greatest₀ i₀ least greatest i = i ≤ count
+Inv-loop count list least₀ greatest₀ i₀ least greatest i = i ≤ count
 
 abbrev μ-loop : tie.MeasureT-loop
-μ-loop count profit least₀ greatest₀ i₀ least greatest i = count - i
+μ-loop count list least₀ greatest₀ i₀ least greatest i = count - i
 
 pub range-spec : {M : Type 1} → statement M
 range-spec =

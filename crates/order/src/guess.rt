@@ -1,0 +1,382 @@
+// Prices guessed before planning. Round after round the price of a span that more requests ask for than its limit goes up and that of a span with room left goes
+// down, in ever smaller steps; a request asks for its spans as long as it bids more than they cost. The guess is no best price list and need not be: it serves the
+// order only. Nothing is promised but safety, so numbers that could grow too large are tested. (Figures found by trying: docs/BENCH.md.)
+ghost use Prim.Native.Nat.{_≤_, _<_};
+ghost use lib.ListN.{length};
+use crate::worth;
+
+// x less y, and never below 0.
+fn less(x: usize, y: usize) -> usize {
+    if x < y {
+        return 0;
+    }
+    x - y
+}
+
+// x and y together, unless one of them is beyond anything that a book gives.
+fn more(x: usize, y: usize) -> usize {
+    if 1099511627776 < x {
+        return x;
+    }
+    if 1099511627776 < y {
+        return x;
+    }
+    x + y
+}
+
+// The sum of the first `count` numbers.
+fn total(count: usize, list: &[usize]) -> usize
+    requires { ⌜ count ≤ length (now list) ⌝ }
+{
+    let mut sum = 0;
+    let mut i = 0;
+    while i < count {
+        sum = more(sum, list[i]);
+        i += 1;
+    }
+    sum
+}
+
+// About how many spans the requests ask for together: every eighth counts for eight.
+fn asked(count: usize, lo: &[usize; 256], hi: &[usize; 256]) -> usize
+    requires { ⌜ count ≤ 256 ⌝ }
+{
+    let mut sum = 0;
+    let mut i = 0;
+    while i < count {
+        let length = less(hi[i], lo[i]);
+        if length < 1000 {
+            sum = more(sum, 8 * length);
+        }
+        i += 8;
+    }
+    sum
+}
+
+// Whether requests are of middling length on average: where all are short or most are long, the guess helps little.
+fn middling(count: usize, length: usize) -> bool
+    requires { ⌜ count ≤ 256 ⌝ }
+{
+    if length < 5 * count {
+        return false;
+    }
+    length <= 40 * count
+}
+
+// Whether they ask for more than there is room for and for no more than fifteen times that, on spans that are much alike or by requests that are not too long.
+fn contested(cells: usize, count: usize, limits: &[usize; 64], length: usize) -> bool
+    requires { ⌜ (cells < 64) × (count ≤ 256) ⌝ }
+{
+    let room = total(cells, limits);
+    if length <= room {
+        return false;
+    }
+    if room < length / 15 {
+        return false;
+    }
+    if length <= 16 * count {
+        return true;
+    }
+    let least = worth::range(cells, limits).least;
+    room / (4 * cells + 1) <= least
+}
+
+// What is taken off every profit before it bids: most of the least one, where all are nearly equal.
+fn flat_part(least: usize, greatest: usize) -> usize {
+    let apart = less(greatest, least);
+    if apart < greatest / 8 {
+        return less(least, apart / 16 + 1);
+    }
+    0
+}
+
+// What a request bids, in 64ths.
+fn bid(profit: usize, off: usize) -> usize {
+    if 1000000 < profit {
+        return 0;
+    }
+    if profit < off {
+        return 0;
+    }
+    64 * (profit - off)
+}
+
+// What each request bids, and the sum.
+fn bid_all(count: usize, profit: &[usize; 256], off: usize, bids: &mut [usize; 256]) -> usize
+    requires { ⌜ count ≤ 256 ⌝ }
+{
+    let mut sum = 0;
+    let mut i = 0;
+    while i < count {
+        let b = bid(profit[i], off);
+        bids[i] = b;
+        sum = more(sum, b);
+        i += 1;
+    }
+    sum
+}
+
+// At which nodes those requests begin and end that bid more than the spans between cost. The toll of a node is what the spans below it cost together.
+fn ask(
+    count: usize,
+    lo: &[usize; 256],
+    hi: &[usize; 256],
+    bids: &[usize; 256],
+    tolls: &[usize; 64],
+    begins: &mut [usize; 64],
+    ends: &mut [usize; 64],
+)
+    requires { ⌜ count ≤ 256 ⌝ }
+{
+    let mut i = 0;
+    while i < count {
+        let a = lo[i];
+        let b = hi[i];
+        if a < 64 {
+            if b < 64 {
+                if less(tolls[b], tolls[a]) < bids[i] {
+                    begins[a] = more(begins[a], 1);
+                    ends[b] = more(ends[b], 1);
+                }
+            }
+        }
+        i += 1;
+    }
+}
+
+// How far a price moves for each request too many: the first step is `unit` for a span that would lose or gain all.
+fn rate(unit: usize, load: usize, limit: usize) -> usize {
+    if 1000 < load {
+        return 0;
+    }
+    if 1000 < limit {
+        return 0;
+    }
+    if load < limit {
+        return unit / (limit + 1);
+    }
+    unit / (load + 1)
+}
+
+// The rate of each span. Answers how many spans more ask for than their limit.
+fn rate_all(
+    cells: usize,
+    limits: &[usize; 64],
+    begins: &[usize; 64],
+    ends: &[usize; 64],
+    unit: usize,
+    rates: &mut [usize; 64],
+) -> usize
+    requires { ⌜ cells < 64 ⌝ }
+{
+    let mut over = 0;
+    let mut load = 0;
+    let mut j = 0;
+    while j < cells {
+        load = less(more(load, begins[j]), ends[j]);
+        rates[j] = rate(unit, load, limits[j]);
+        if limits[j] < load {
+            over = more(over, 1);
+        }
+        j += 1;
+    }
+    over
+}
+
+// How far a price moves for so many requests too many, or too few.
+fn step(apart: usize, rate: usize) -> usize {
+    if 1000 < apart {
+        return 0;
+    }
+    if 1099511627776 < rate {
+        return 0;
+    }
+    apart * rate
+}
+
+// A price after a round.
+fn moved(price: usize, load: usize, limit: usize, rate: usize) -> usize {
+    if limit < load {
+        return more(price, step(load - limit, rate));
+    }
+    less(price, step(limit - load, rate))
+}
+
+// The rate of the next round.
+fn slower(rate: usize) -> usize {
+    if 1099511627776 < rate {
+        return 0;
+    }
+    rate * 225 / 256
+}
+
+// The prices and tolls after a round.
+fn move_all(
+    cells: usize,
+    limits: &[usize; 64],
+    begins: &[usize; 64],
+    ends: &[usize; 64],
+    rates: &mut [usize; 64],
+    prices: &mut [usize; 64],
+    tolls: &mut [usize; 64],
+)
+    requires { ⌜ cells < 64 ⌝ }
+{
+    let mut toll = 0;
+    let mut load = 0;
+    let mut j = 0;
+    while j < cells {
+        load = less(more(load, begins[j]), ends[j]);
+        let price = moved(prices[j], load, limits[j], rates[j]);
+        prices[j] = price;
+        rates[j] = slower(rates[j]);
+        toll = more(toll, price);
+        tolls[j + 1] = toll;
+        j += 1;
+    }
+}
+
+// Twenty rounds.
+fn settle(
+    cells: usize,
+    count: usize,
+    limits: &[usize; 64],
+    lo: &[usize; 256],
+    hi: &[usize; 256],
+    bids: &[usize; 256],
+    rates: &mut [usize; 64],
+    tolls: &mut [usize; 64],
+)
+    requires { ⌜ (cells < 64) × (count ≤ 256) ⌝ }
+{
+    let mut prices = [0usize; 64];
+    let mut round: usize = 0;
+    while round < 20 {
+        let mut begins = [0usize; 64];
+        let mut ends = [0usize; 64];
+        ask(count, lo, hi, bids, tolls, &mut begins, &mut ends);
+        move_all(cells, limits, &begins, &ends, rates, &mut prices, tolls);
+        round += 1;
+    }
+}
+
+// What a request has above the tolls on its way, with a part of the greatest bid added, so that a little below them still counts.
+fn surplus(bid: usize, below: usize, above: usize, slack: usize) -> usize {
+    less(more(bid, slack), less(above, below)) / 64
+}
+
+// The surplus of each request, and the greatest.
+fn surplus_all(
+    count: usize,
+    lo: &[usize; 256],
+    hi: &[usize; 256],
+    bids: &[usize; 256],
+    tolls: &[usize; 64],
+    slack: usize,
+    worths: &mut [usize; 256],
+) -> usize
+    requires { ⌜ count ≤ 256 ⌝ }
+{
+    let mut top = 0;
+    let mut i = 0;
+    while i < count {
+        let a = lo[i];
+        let b = hi[i];
+        if a < 64 {
+            if b < 64 {
+                let w = surplus(bids[i], tolls[a], tolls[b], slack);
+                worths[i] = w;
+                if top < w {
+                    top = w;
+                }
+            }
+        }
+        i += 1;
+    }
+    top
+}
+
+// What a price moves by at first: twice what a span brings on average.
+fn first_step(bids: usize, length: usize) -> usize {
+    if length == 0 {
+        return 0;
+    }
+    if 1099511627776 < bids {
+        return 0;
+    }
+    2 * bids / length
+}
+
+// The worth of each request at guessed prices, and the greatest; 0 where fewer than eight spans are asked for too often.
+fn at_prices(
+    cells: usize,
+    count: usize,
+    limits: &[usize; 64],
+    lo: &[usize; 256],
+    hi: &[usize; 256],
+    profit: &[usize; 256],
+    length: usize,
+    off: usize,
+    slack: usize,
+    worths: &mut [usize; 256],
+) -> usize
+    requires { ⌜ (cells < 64) × (count ≤ 256) ⌝ }
+{
+    let mut bids = [0usize; 256];
+    let mut begins = [0usize; 64];
+    let mut ends = [0usize; 64];
+    let mut rates = [0usize; 64];
+    let mut tolls = [0usize; 64];
+    let sum = bid_all(count, profit, off, &mut bids);
+    ask(count, lo, hi, &bids, &tolls, &mut begins, &mut ends);
+    let unit = first_step(sum, length);
+    let over = rate_all(cells, limits, &begins, &ends, unit, &mut rates);
+    if over < 8 {
+        return 0;
+    }
+    settle(cells, count, limits, lo, hi, &bids, &mut rates, &mut tolls);
+    surplus_all(count, lo, hi, &bids, &tolls, slack, worths)
+}
+
+// The same for any row; 0 where it is not worth guessing.
+pub fn weigh(
+    cells: usize,
+    count: usize,
+    limits: &[usize; 64],
+    lo: &[usize; 256],
+    hi: &[usize; 256],
+    profit: &[usize; 256],
+    least: usize,
+    greatest: usize,
+    worths: &mut [usize; 256],
+) -> usize
+    requires { ⌜ count ≤ 256 ⌝ }
+{
+    if 64 <= cells {
+        return 0;
+    }
+    if least == greatest {
+        return 0;
+    }
+    let length = asked(count, lo, hi);
+    if !middling(count, length) {
+        return 0;
+    }
+    if !contested(cells, count, limits, length) {
+        return 0;
+    }
+    let off = flat_part(least, greatest);
+    let slack = bid(greatest, off) / 2;
+    at_prices(
+        cells,
+        count,
+        limits,
+        lo,
+        hi,
+        profit,
+        length,
+        off,
+        slack,
+        worths,
+    )
+}
