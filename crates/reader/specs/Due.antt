@@ -6,7 +6,7 @@ use lib.ListN.{length}
 use Rattle.reader.specs.declared.Reading.{Reading}
 use Rattle.reader.specs.declared.records.Due.{Due}
 use Rattle.reader.specs.declared.records.Due.the-variants.{Network, Span, Request}
-use Rattle.reader.specs.Records.{networkAt, spanAt, requestAt}
+use Rattle.reader.specs.Records.{networkRecordAt, spanRecordAt, requestRecordAt}
 
 -- where each may stand: the network is record 0, the spans are among records 1 to 64, present or not, and a request is a whole record of the
 -- part that follows the spans
@@ -16,6 +16,6 @@ MayStand f at (Span channels) = (0 < at) × (at ≤ 64)
 MayStand f at (Request before nodes) = (16 * at + 16 ≤ length f) × (before ≤ 65)
 
 abbrev pub recordAt : List ℕ → ℕ → Due → Reading
-recordAt f at Network = networkAt f
-recordAt f at (Span channels) = spanAt f at channels
-recordAt f at (Request before nodes) = requestAt f at before nodes
+recordAt f at Network = networkRecordAt f
+recordAt f at (Span channels) = spanRecordAt f at channels
+recordAt f at (Request before nodes) = requestRecordAt f at before nodes

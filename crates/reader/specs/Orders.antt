@@ -19,12 +19,12 @@ use Rattle.reader.specs.declared.Record.the-variants as kind
 use Rattle.reader.specs.declared.requests.Orders.{Orders}
 use Rattle.reader.specs.Says.{plain, noRequest}
 use Rattle.reader.specs.Tests.{first-passed}
-use Rattle.reader.specs.Records.{requestIn, requestRow, requestAt, answer-got}
+use Rattle.reader.specs.Records.{requestIn, requestRow, requestRecordAt, answer-got}
 use Rattle.reader.specs.Series.{Series, SoFar, InList, isGot, accepted, so-far-more}
 
 abbrev pub requestSeries : List ℕ → (before nodes : ℕ) → Series Request B.Request
 requestSeries part before nodes =
-    record { says = λ i. requestAt part i before nodes; room = 256; empty = noRequest; means = plain; wants = requestOf part }
+    record { says = λ i. requestRecordAt part i before nodes; room = 256; empty = noRequest; means = plain; wants = requestOf part }
 
 pub record OrdersRead (part : List ℕ) (before : ℕ) (network : Network) (read : Orders) : Type 0 where
   pub within : read .count ≤ 256
@@ -32,13 +32,13 @@ pub record OrdersRead (part : List ℕ) (before : ℕ) (network : Network) (read
   pub inList : InList (requestSeries part before (network .nodes)) (records part) network (read .answer) (read .requests)
 
 -- what is got where a request is due is that request, and it is one of 256
-module _ (part : List ℕ) (before nodes i : ℕ) (r : Reading) (got : Record) (is : r ≡ requestAt part i before nodes) (e : r ≡ Got got) where
+module _ (part : List ℕ) (before nodes i : ℕ) (r : Reading) (got : Record) (is : r ≡ requestRecordAt part i before nodes) (e : r ≡ Got got) where
   pub got-request : got ≡ kind.Request (requestIn part i)
-  unfolding requestAt
+  unfolding requestRecordAt
   got-request = answer-got (requestRow part i nodes) (before + i) _ got (sym is ∙ e) .1
 
   pub request-within : i < 256
-  unfolding requestAt requestRow
+  unfolding requestRecordAt requestRow
   request-within = omega (arith, ltb-false 255 i (first-passed _ 8 _ (omega arith) (answer-got (requestRow part i nodes) (before + i) _ got (sym is ∙ e) .0)))
 
   pub request-more :

@@ -70,8 +70,8 @@ networkIn f = record { shape = shapeIn f; nodes = nodesIn f; channels = channels
 unfoldable pub networkRow : List ℕ → ℕ
 networkRow f = lowest ((wrongCount (length f) ⇒ 1) ∷ networkTests (kindIn f 0) (networkIn f) (blank f 6 10))
 
-unfoldable pub networkAt : List ℕ → Reading
-networkAt f = answer (networkRow f) 0 (kind.Network (networkIn f))
+unfoldable pub networkRecordAt : List ℕ → Reading
+networkRecordAt f = answer (networkRow f) 0 (kind.Network (networkIn f))
 
 -- ---- record r of a file, where a span is due and there are so many channels
 
@@ -82,8 +82,8 @@ unfoldable pub spanRow : List ℕ → (r channels : ℕ) → ℕ
 spanRow f r channels =
     lowest ((not (present f r) ⇒ 5) ∷ spanTests (r - 1) channels (kindIn f r) (markIn f r) (spanIn f r) (blank f (start r + 6) 10))
 
-unfoldable pub spanAt : List ℕ → (r channels : ℕ) → Reading
-spanAt f r channels = answer (spanRow f r channels) r (kind.Span (spanIn f r))
+unfoldable pub spanRecordAt : List ℕ → (r channels : ℕ) → Reading
+spanRecordAt f r channels = answer (spanRow f r channels) r (kind.Span (spanIn f r))
 
 -- ---- record i of the part of a file that follows the spans, so many records standing before it and there being so many nodes
 
@@ -93,5 +93,5 @@ requestIn part i = record { number = numberIn part i; a = aIn part i; b = bIn pa
 unfoldable pub requestRow : List ℕ → (i nodes : ℕ) → ℕ
 requestRow part i nodes = lowest (requestTests i nodes (kindIn part i) (markIn part i) (requestIn part i) (blank part (start i + 12) 4))
 
-unfoldable pub requestAt : List ℕ → (i before nodes : ℕ) → Reading
-requestAt part i before nodes = answer (requestRow part i nodes) (before + i) (kind.Request (requestIn part i))
+unfoldable pub requestRecordAt : List ℕ → (i before nodes : ℕ) → Reading
+requestRecordAt part i before nodes = answer (requestRow part i nodes) (before + i) (kind.Request (requestIn part i))

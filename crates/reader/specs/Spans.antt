@@ -12,12 +12,12 @@ use Rattle.reader.specs.declared.Reading.the-variants.{Got}
 use Rattle.reader.specs.declared.Record.{Record}
 use Rattle.reader.specs.declared.Record.the-variants as kind
 use Rattle.reader.specs.declared.spans.Limits.{Limits}
-use Rattle.reader.specs.Records.{spanIn, spanRow, spanAt, answer-got}
+use Rattle.reader.specs.Records.{spanIn, spanRow, spanRecordAt, answer-got}
 use Rattle.reader.specs.Series.{Series, SoFar, InList, isGot, so-far-more}
 
 abbrev pub spanSeries : List ℕ → ℕ → Series ℕ ℕ
 spanSeries f channels =
-    record { says = λ s. spanAt f (1 + s) channels; room = 64; empty = 0; means = λ limit. limit; wants = λ s. limitIn f (1 + s) }
+    record { says = λ s. spanRecordAt f (1 + s) channels; room = 64; empty = 0; means = λ limit. limit; wants = λ s. limitIn f (1 + s) }
 
 abbrev pub SpansRead : List ℕ → Network → ℕ → Limits → Type 0
 SpansRead f network spans read = InList (spanSeries f (network .channels)) spans network (read .answer) (read .limits)
@@ -26,13 +26,13 @@ SpansRead f network spans read = InList (spanSeries f (network .channels)) spans
 after-network : (r : ℕ) → 0 < r → r ≡ 1 + (r - 1)
 after-network r h = omega arith
 
-pub span-due : (f : List ℕ) (channels r : ℕ) → 0 < r → spanAt f r channels ≡ spanSeries f channels .says (r - 1)
-span-due f channels r h = ap (λ (n : ℕ). spanAt f n channels) (after-network r h)
+pub span-due : (f : List ℕ) (channels r : ℕ) → 0 < r → spanRecordAt f r channels ≡ spanSeries f channels .says (r - 1)
+span-due f channels r h = ap (λ (n : ℕ). spanRecordAt f n channels) (after-network r h)
 
 -- what is got there is that span
-module _ (f : List ℕ) (channels r : ℕ) (reading : Reading) (got : Record) (is : reading ≡ spanAt f r channels) (e : reading ≡ Got got) where
+module _ (f : List ℕ) (channels r : ℕ) (reading : Reading) (got : Record) (is : reading ≡ spanRecordAt f r channels) (e : reading ≡ Got got) where
   pub got-span : got ≡ kind.Span (spanIn f r)
-  unfolding spanAt
+  unfolding spanRecordAt
   got-span = answer-got (spanRow f r channels) r _ got (sym is ∙ e) .1
 
   pub span-more :

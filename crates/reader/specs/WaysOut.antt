@@ -23,7 +23,7 @@ use Rattle.reader.specs.declared.Reading.the-variants.{Got, Refused}
 use Rattle.reader.specs.declared.Record.{Record}
 use Rattle.reader.specs.declared.Record.the-variants as kind
 use Rattle.reader.specs.Parts.{records-part}
-use Rattle.reader.specs.Records.{answer, networkIn, networkRow, networkAt, spanAt, requestAt, answer-refused, answer-got}
+use Rattle.reader.specs.Records.{answer, networkIn, networkRow, networkRecordAt, spanRecordAt, requestRecordAt, answer-refused, answer-got}
 use Rattle.reader.specs.Series.{AllGot, Stopped, isGot}
 use Rattle.reader.specs.Rows.{network-row, span-row, request-row}
 
@@ -57,12 +57,12 @@ clean-on f b n before on q h = ⊎-elim (before q) (λ l. subst (λ (r : ℕ). f
 
 -- ---- the network
 
-pub network-refused : (f : List ℕ) (refusal : Refusal) → networkAt f ≡ Refused refusal → reading f ≡ refused (refusal .number) (refusal .place)
-unfolding networkAt
+pub network-refused : (f : List ℕ) (refusal : Refusal) → networkRecordAt f ≡ Refused refusal → reading f ≡ refused (refusal .number) (refusal .place)
+unfolding networkRecordAt
 network-refused f refusal e = refused-at f (networkRow f) 0 _ (network-row f) refusal (span-looked-at f 0 (omega arith)) (λ q h. absurd (omega arith)) e
 
-pub got-network : (f : List ℕ) (got : Record) → networkAt f ≡ Got got → got ≡ kind.Network (networkIn f)
-unfolding networkAt
+pub got-network : (f : List ℕ) (got : Record) → networkRecordAt f ≡ Got got → got ≡ kind.Network (networkIn f)
+unfolding networkRecordAt
 got-network f got e = answer-got (networkRow f) 0 _ got e .1
 
 -- a line and a ring of n nodes have n − 1 spans or n
@@ -80,8 +80,8 @@ pub record Headed (f : List ℕ) : Type 0 where
   pub least : 1 ≤ spansIn f
   pub most : spansIn f ≤ 64
 
-pub headed : (f : List ℕ) (got : Record) → networkAt f ≡ Got got → Headed f
-unfolding networkAt spansIn
+pub headed : (f : List ℕ) (got : Record) → networkRecordAt f ≡ Got got → Headed f
+unfolding networkRecordAt spansIn
 headed f got e =
     record {
       clean = λ q h. subst (λ (r : ℕ). faulty f r ≡ false) (omega arith) whole;
@@ -104,22 +104,22 @@ headed f got e =
 -- ---- the spans
 
 abbrev pub spanSays : List ℕ → ℕ → Reading
-spanSays f s = spanAt f (1 + s) (channelsIn f)
+spanSays f s = spanRecordAt f (1 + s) (channelsIn f)
 
 -- the part of the file that follows the span records
 abbrev pub afterSpans : List ℕ → List ℕ
 afterSpans f = drop (start (1 + spansIn f)) f
 
 abbrev pub requestSays : List ℕ → ℕ → Reading
-requestSays f i = requestAt (afterSpans f) i (1 + spansIn f) (nodesIn f)
+requestSays f i = requestRecordAt (afterSpans f) i (1 + spansIn f) (nodesIn f)
 
 module _ (f : List ℕ) (h : Headed f) where
   spans-clean : (n : ℕ) → n ≤ spansIn f → AllGot (spanSays f) n → Clean f (1 + n)
-  unfolding spanAt
+  unfolding spanRecordAt
   spans-clean n l got = clean-on f 1 n (h .clean) (λ s k. got-clean f _ (1 + s) _ (span-row f (1 + s) (omega arith) (omega arith)) (got s k))
 
   pub spans-refused : (refusal : Refusal) → Stopped (spanSays f) (spansIn f) refusal → reading f ≡ refused (refusal .number) (refusal .place)
-  unfolding spanAt
+  unfolding spanRecordAt
   spans-refused refusal stop =
       let r = 1 + stop .at in
       refused-at f _ r _ (span-row f r (omega arith) (omega arith)) refusal (span-looked-at f r (omega arith)) (spans-clean (stop .at) (omega arith) (stop .before)) (stop .here)
@@ -136,13 +136,13 @@ module _ (f : List ℕ) (h : Headed f) where
         not5 = not-so (row-5 f (spansIn f)) .0 (unbroken f (spansIn f) (spans-clean (spansIn f) (omega arith) spans (spansIn f) (omega arith)) 5 (omega arith))
 
     requests-clean : (n : ℕ) → AllGot (requestSays f) n → Clean f (1 + spansIn f + n)
-    unfolding requestAt
+    unfolding requestRecordAt
     requests-clean n got =
         clean-on f (1 + spansIn f) n (spans-clean (spansIn f) (omega arith) spans) (λ i k. got-clean f _ (1 + spansIn f + i) _ (request-row f i) (got i k))
 
     pub requests-refused :
         (refusal : Refusal) → Stopped (requestSays f) (records (afterSpans f)) refusal → reading f ≡ refused (refusal .number) (refusal .place)
-    unfolding requestAt
+    unfolding requestRecordAt
     requests-refused refusal stop =
         let r = 1 + spansIn f + stop .at in
         refused-at f _ r _ (request-row f (stop .at)) refusal (present-looked-at f r (omega (arith, records-part f (1 + spansIn f)))) (requests-clean (stop .at) (stop .before)) (stop .here)

@@ -25,7 +25,7 @@ use Rattle.reader.specs.declared.spans.Limits.{Limits}
 use Rattle.reader.specs.declared.requests.Orders.{Orders}
 use Rattle.reader.specs.Says.{Reads, Unread, noRequest, plain, bookFrom, outcomeOf}
 use Rattle.reader.specs.Parts.{a-part, b-part, profit-part, records-part, part-is}
-use Rattle.reader.specs.Records.{networkIn, networkAt}
+use Rattle.reader.specs.Records.{networkIn, networkRecordAt}
 use Rattle.reader.specs.Series.{AllGot, InTurn, AllMeant, accepted}
 use Rattle.reader.specs.Spans.{SpansRead, spanSeries}
 use Rattle.reader.specs.Orders.{OrdersRead, requestSeries}
@@ -97,7 +97,7 @@ pub record Begun (f : List ℕ) (network : Network) (n : ℕ) : Type 0 where
 
 pub begun :
     (f : List ℕ) (r : Reading) (got : Record) (network : Network) (n : ℕ)
-    → r ≡ networkAt f → r ≡ Got got → got ≡ kind.Network network → n ≡ B.spansOf (network .shape) (network .nodes) → Begun f network n
+    → r ≡ networkRecordAt f → r ≡ Got got → got ≡ kind.Network network → n ≡ B.spansOf (network .shape) (network .nodes) → Begun f network n
 unfolding spansIn
 begun f r got network n at e k n-of = record { head = headed f got (sym at ∙ e); is = is; n-is = n-of ∙ ap (λ (t : Network). B.spansOf (t .shape) (t .nodes)) is }
   where

@@ -53,7 +53,7 @@ fn answer(row: usize, place: usize, got: Record) -> Reading
 
 // The network, record 0, with the byte count, which is tested first.
 fn network_at(file: &[u8]) -> Reading
-    ensures { λ r. ⌜ r ≡ R.networkAt (now (file .entry)) ⌝ }
+    ensures { λ r. ⌜ r ≡ R.networkRecordAt (now (file .entry)) ⌝ }
 {
     if judge::count_wrong(file.len()) {
         return Reading::Refused(Refusal {
@@ -75,7 +75,7 @@ fn network_at(file: &[u8]) -> Reading
 // The span due at a record index, which may be missing.
 fn span_at(file: &[u8], index: usize, channels: usize) -> Reading
     requires { ⌜ (0 < index) × (index ≤ 64) ⌝ }
-    ensures { λ r. ⌜ r ≡ R.spanAt (now (file .entry)) index channels ⌝ }
+    ensures { λ r. ⌜ r ≡ R.spanRecordAt (now (file .entry)) index channels ⌝ }
 {
     if file.len() / 16 <= index {
         return Reading::Refused(Refusal {
@@ -97,7 +97,7 @@ fn span_at(file: &[u8], index: usize, channels: usize) -> Reading
 // Request i of the part of the file that follows the spans; `before` records stand before the part.
 fn request_at(part: &[u8], i: usize, before: usize, nodes: usize) -> Reading
     requires { ⌜ (16 * i + 16 ≤ length (now part)) × (before ≤ 65) ⌝ }
-    ensures { λ r. ⌜ r ≡ R.requestAt (now (part .entry)) i before nodes ⌝ }
+    ensures { λ r. ⌜ r ≡ R.requestRecordAt (now (part .entry)) i before nodes ⌝ }
 {
     let at = 16 * i;
     let head = head_at(part, at);

@@ -32,7 +32,7 @@ formedIn k a b entries i = formedAt k (at a i) (at b i) (entryIn entries i)
 
 -- a plan laid out in columns: where each request begins, where it ends, whether it crosses a span at all, and its channel; one that is not kept begins and
 -- ends at 0
-pub record LaidOut (count : ℕ) (a b : List ℕ) (plan : Plan) (lo hi : List ℕ) (crossing : List Bool) (channels : List ℕ) : Type 0 where
+pub record PlanLaidOut (count : ℕ) (a b : List ℕ) (plan : Plan) (lo hi : List ℕ) (crossing : List Bool) (channels : List ℕ) : Type 0 where
   pub lo-is : Filled (λ i. when (kept plan i) (min (at a i) (at b i))) count lo
   pub hi-is : Filled (λ i. when (kept plan i) (max (at a i) (at b i))) count hi
   pub crossing-is : (i : ℕ) → i < count → flag crossing i ≡ ltb (at lo i) (at hi i)
@@ -41,20 +41,20 @@ pub record LaidOut (count : ℕ) (a b : List ℕ) (plan : Plan) (lo hi : List �
 -- the answer is whether every entry by itself obeys the rules; where they all do, the plan is laid out
 pub record Lays (answer : Bool) (k count : ℕ) (a b entries lo hi : List ℕ) (crossing : List Bool) (channels : List ℕ) : Type 0 where
   pub formed : answer ≡ each count (formedIn k a b entries)
-  pub laid : answer ≡ true → LaidOut count a b (entryIn entries) lo hi crossing channels
+  pub laid : answer ≡ true → PlanLaidOut count a b (entryIn entries) lo hi crossing channels
 
 module _ {k count : ℕ} {a b entries lo hi : List ℕ} {crossing : List Bool} {channels : List ℕ} where
   pub lays-wrong : (i : ℕ) → i < count → formedIn k a b entries i ≡ false → Lays false k count a b entries lo hi crossing channels
   lays-wrong i l e = record { formed = sym (each-fails count _ i l e); laid = λ f. absurd (of-yes f) }
 
   pub lays-all :
-      ((i : ℕ) → i < count → formedIn k a b entries i ≡ true) → LaidOut count a b (entryIn entries) lo hi crossing channels
+      ((i : ℕ) → i < count → formedIn k a b entries i ≡ true) → PlanLaidOut count a b (entryIn entries) lo hi crossing channels
       → Lays true k count a b entries lo hi crossing channels
   lays-all all out = record { formed = sym (each-of count _ all); laid = λ e. out }
 
 -- the columns after some turns
-pub record Laying (count : ℕ) (a b : List ℕ) (plan : Plan) (lo hi : List ℕ) (crossing : List Bool) (channels : List ℕ) : Type 0 where
-  pub so-far : LaidOut count a b plan lo hi crossing channels
+pub record LayingPlan (count : ℕ) (a b : List ℕ) (plan : Plan) (lo hi : List ℕ) (crossing : List Bool) (channels : List ℕ) : Type 0 where
+  pub so-far : PlanLaidOut count a b plan lo hi crossing channels
   pub lo-long : length lo ≡ 256
   pub hi-long : length hi ≡ 256
   pub crossing-long : length crossing ≡ 256
@@ -63,7 +63,7 @@ pub record Laying (count : ℕ) (a b : List ℕ) (plan : Plan) (lo hi : List ℕ
 module _ {a b : List ℕ} {plan : Plan} where
   pub laying-none :
       (lo hi : List ℕ) (crossing : List Bool) (channels : List ℕ) → length lo ≡ 256 → length hi ≡ 256 → length crossing ≡ 256 → length channels ≡ 256
-      → Laying 0 a b plan lo hi crossing channels
+      → LayingPlan 0 a b plan lo hi crossing channels
   laying-none lo hi crossing channels l h k c = record {
     so-far = record { lo-is = filled-none _ lo; hi-is = filled-none _ hi; crossing-is = λ i l. absurd (omega arith); channel-is = filled-none _ channels };
     lo-long = l;
@@ -73,9 +73,9 @@ module _ {a b : List ℕ} {plan : Plan} where
   }
 
   pub laying-more :
-      {i : ℕ} {lo hi : List ℕ} {crossing : List Bool} {channels : List ℕ} (from upto held : ℕ) → Laying i a b plan lo hi crossing channels → i < 256
+      {i : ℕ} {lo hi : List ℕ} {crossing : List Bool} {channels : List ℕ} (from upto held : ℕ) → LayingPlan i a b plan lo hi crossing channels → i < 256
       → from ≡ when (kept plan i) (min (at a i) (at b i)) → upto ≡ when (kept plan i) (max (at a i) (at b i)) → held ≡ channel plan i
-      → Laying (i + 1) a b plan (set lo i from) (set hi i upto) (set crossing i (ltb from upto)) (set channels i held)
+      → LayingPlan (i + 1) a b plan (set lo i from) (set hi i upto) (set crossing i (ltb from upto)) (set channels i held)
   laying-more {i} {lo} {hi} {crossing} from upto held was l p q r = record {
     so-far = record {
       lo-is = filled-more from (was .so-far .lo-is) (omega (arith, was .lo-long)) p;

@@ -24,7 +24,7 @@ use Rattle.lines.specs.RowOf.{rowOf}
 use Rattle.lines.specs.Ways.{line-way}
 use Rattle.lines.specs.Laid.{Laid, over-covers}
 use Rattle.verdict.specs.CanCheck.{Drawn, EndsBelow}
-use Rattle.verdict.specs.Entry.{wayAt, formedAt, formedIn, LaidOut}
+use Rattle.verdict.specs.Entry.{wayAt, formedAt, formedIn, PlanLaidOut}
 use Rattle.verdict.specs.Spans.{over, over-late, FairOn, FairSpans, CanSweep, Decides}
 use Rattle.verdict.specs.SpanBySpan.{formedOr, obeys-formed, obeys-on, on-obeys}
 
@@ -47,7 +47,7 @@ fair-as {count} {f} {g} same held lim fair = record {
 
 -- a plan's columns can be swept: an entry's channel is below 256, whatever the entry is
 pub can-sweep :
-    {count : ℕ} {a b lo hi held : List ℕ} {crossing : List Bool} {plan : Plan} → count ≤ 256 → EndsBelow 64 count a b → LaidOut count a b plan lo hi crossing held
+    {count : ℕ} {a b lo hi held : List ℕ} {crossing : List Bool} {plan : Plan} → count ≤ 256 → EndsBelow 64 count a b → PlanLaidOut count a b plan lo hi crossing held
     → CanSweep count lo hi crossing held
 unfolding channel
 can-sweep {a = a} {b} {plan = plan} few ends laid-out = record {
@@ -79,7 +79,7 @@ module _ {book : Book} (on : Line book) (plan : Plan) where
 
 module _
     {book : Book} {spans count : ℕ} {limits a b : List ℕ} (drawn : Drawn book spans limits count a b)
-    {plan : Plan} {lo hi held : List ℕ} {crossing : List Bool} (laid-out : LaidOut count a b plan lo hi crossing held)
+    {plan : Plan} {lo hi held : List ℕ} {crossing : List Bool} (laid-out : PlanLaidOut count a b plan lo hi crossing held)
   where
     -- a request by its columns crosses the spans that it crosses on its way
     over-columns : Laid book plan → (s i : ℕ) → i < count → Plans.over book plan i s ≡ over lo hi s i
@@ -123,7 +123,7 @@ module _
     -- else the spans decide
     pub spans-obey :
         {formed answer : Bool} {lo hi held : List ℕ} {crossing : List Bool}
-        → formed ≡ each count (formedIn channels a b entries) → formed ≡ true → LaidOut count a b (entryIn entries) lo hi crossing held
+        → formed ≡ each count (formedIn channels a b entries) → formed ≡ true → PlanLaidOut count a b (entryIn entries) lo hi crossing held
         → Decides answer (FairSpans spans limits count lo hi held) → answer ≡ obeys book (entryIn entries)
     spans-obey {answer = answer} {lo} {hi} {held} is all laid-out d = same-answer sound whole
       where

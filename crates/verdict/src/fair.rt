@@ -10,7 +10,7 @@ ghost use Rattle.book.specs.Book.{Book};
 ghost use Rattle.book.specs.Bytes.{entryIn};
 ghost use Rattle.rules.specs.Plans.{obeys};
 ghost use Rattle.verdict.specs.CanCheck.{Drawn, EndsBelow};
-ghost use Rattle.verdict.specs.Entry.{wayAt, formedAt, Laying, Lays};
+ghost use Rattle.verdict.specs.Entry.{wayAt, formedAt, LayingPlan, Lays};
 use crate::ends;
 use crate::places;
 use crate::sweep;
@@ -75,7 +75,7 @@ fn lay(
     channel: &mut [usize; 256],
 ) -> bool
     requires { ⌜ (count ≤ 256) × (2 * count ≤ length (now entries)) ⌝ }
-    requires { ⌜ Laying 0 (now a) (now b) (entryIn (now entries)) (now lo) (now hi) (now crossing) (now channel) ⌝ }
+    requires { ⌜ LayingPlan 0 (now a) (now b) (entryIn (now entries)) (now lo) (now hi) (now crossing) (now channel) ⌝ }
     ensures { λ r. ⌜ Lays r channels count (now (a .entry)) (now (b .entry)) (now (entries .entry)) (now (lo .exit)) (now (hi .exit)) (now (crossing .exit)) (now (channel .exit)) ⌝ }
 {
     let mut i = 0;

@@ -7,13 +7,13 @@ use denote.Ref.{now}
 use lib.ListN.{length}
 use Rattle.book.specs.Refusals.{start, kindIn, shapeIn, nodesIn, channelsIn}
 use Rattle.reader.specs.Judged.{one-record}
-use Rattle.reader.specs.Records.{networkRow, networkAt, answer-first, answer-rest}
+use Rattle.reader.specs.Records.{networkRow, networkRecordAt, answer-first, answer-rest}
 use borrow.Author.Needs.{needs}
 use Rattle.reader.proofs.records.network_at.Statement.{statement}
 use Rattle.reader.proofs.records.network_at.Tie as tie
 
 returns : tie.Need-returns
-unfolding networkAt networkRow
+unfolding networkRecordAt networkRow
 returns c = sym (answer-first _ 1 _ 0 _ (sym (c .before .count-wrong .ensures) ∙ c .if1 .taken) (omega arith))
 
 long : (c : tie.Else1) → 16 ≤ length (now (c .before .before .before .args .file))
@@ -26,7 +26,7 @@ blank-requires : tie.Need-blank-requires
 blank-requires c κs = omega (arith, long (c .before))
 
 returns-2 : tie.Need-returns-2
-unfolding networkAt networkRow kindIn shapeIn nodesIn channelsIn start
+unfolding networkRecordAt networkRow kindIn shapeIn nodesIn channelsIn start
 returns-2 c =
     let rest = c .before .before in
     let tested = rest .before .before in

@@ -1,12 +1,12 @@
 -- `reader::records::request_at` meets its contract: each field is where the definition has it. Assumes nothing.
 use Rattle.book.specs.Refusals.{start, kindIn, markIn, numberIn, aIn, bIn, profitIn}
-use Rattle.reader.specs.Records.{requestRow, requestAt}
+use Rattle.reader.specs.Records.{requestRow, requestRecordAt}
 use borrow.Author.Needs.{needs}
 use Rattle.reader.proofs.records.request_at.Statement.{statement}
 use Rattle.reader.proofs.records.request_at.Tie as tie
 
 returns : tie.Need-returns
-unfolding requestAt requestRow kindIn markIn numberIn aIn bIn profitIn start
+unfolding requestRecordAt requestRow kindIn markIn numberIn aIn bIn profitIn start
 returns c =
     let rest = c .before .before in
     let ends = rest .before .before in

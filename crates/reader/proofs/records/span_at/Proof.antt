@@ -3,17 +3,17 @@ use mathlib.Core.Path.{sym, _∙_}
 use native.Mathlib.Omega.{arith}
 use borrow.Author.Tests.{lt-ltb, le-ltb}
 use Rattle.book.specs.Refusals.{start, records, present, kindIn, markIn, numberIn, limitIn}
-use Rattle.reader.specs.Records.{spanRow, spanAt, answer-first, answer-rest}
+use Rattle.reader.specs.Records.{spanRow, spanRecordAt, answer-first, answer-rest}
 use borrow.Author.Needs.{needs}
 use Rattle.reader.proofs.records.span_at.Statement.{statement}
 use Rattle.reader.proofs.records.span_at.Tie as tie
 
 returns : tie.Need-returns
-unfolding spanAt spanRow present records
+unfolding spanRecordAt spanRow present records
 returns c = sym (answer-first _ 5 _ _ _ (rw (le-ltb _ _ (c .if1 .taken))) (omega arith))
 
 returns-2 : tie.Need-returns-2
-unfolding spanAt spanRow kindIn markIn numberIn limitIn start present records
+unfolding spanRecordAt spanRow kindIn markIn numberIn limitIn start present records
 returns-2 c =
     let rest = c .before .before in
     sym

@@ -9,13 +9,13 @@ use borrow.Author.Tests.{not-true, not-false}
 use Rattle.book.specs.Bytes.{entryIn}
 use Rattle.rules.specs.Plans as Plans
 use Rattle.rules.specs.Plans.{kept}
-use Rattle.verdict.specs.Entry.{formedIn, lays-wrong, lays-all, Laying, laying-more}
+use Rattle.verdict.specs.Entry.{formedIn, lays-wrong, lays-all, LayingPlan, laying-more}
 use Rattle.verdict.proofs.fair.lay.Statement.{statement}
 use Rattle.verdict.proofs.fair.lay.Tie as tie
 
 abbrev Inv-loop : tie.InvT-loop
 Inv-loop channels count a b entries lo₀ hi₀ crossing₀ channel₀ i₀ lo hi crossing channel i =
-    (i ≤ count) × ((k : ℕ) → k < i → formedIn channels a b entries k ≡ true) × Laying i a b (entryIn entries) lo hi crossing channel
+    (i ≤ count) × ((k : ℕ) → k < i → formedIn channels a b entries k ≡ true) × LayingPlan i a b (entryIn entries) lo hi crossing channel
 
 abbrev μ-loop : tie.MeasureT-loop
 μ-loop channels count a b entries lo₀ hi₀ crossing₀ channel₀ i₀ lo hi crossing channel i = count - i
