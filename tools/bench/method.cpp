@@ -14,6 +14,7 @@ struct Ground {
     bool *kept;
     size_t *room;
     int64_t *dist;
+    // the dropped candidates by their first node, the kept ones by their last, each chain by falling number
     Cells head_lo, head_hi;
     Arcs next_lo, next_hi;
 };
@@ -63,15 +64,13 @@ void fall(const Ground &g, Search &s, size_t u)
 // Along the dropped candidates that begin at u.
 void spread_dropped(const Ground &g, Search &s, size_t u)
 {
-    for (size_t i = g.head_lo[u]; 0 < i; i = g.next_lo[i - 1])
-        if (!g.kept[i - 1]) try_arc(g, s, g.cost[i - 1], u, g.hi[i - 1], i - 1);
+    for (size_t i = g.head_lo[u]; 0 < i; i = g.next_lo[i - 1]) try_arc(g, s, g.cost[i - 1], u, g.hi[i - 1], i - 1);
 }
 
 // Back along the kept candidates that end at u.
 void spread_kept(const Ground &g, Search &s, size_t u)
 {
-    for (size_t i = g.head_hi[u]; 0 < i; i = g.next_hi[i - 1])
-        if (g.kept[i - 1]) try_arc(g, s, -g.cost[i - 1], u, g.lo[i - 1], i - 1);
+    for (size_t i = g.head_hi[u]; 0 < i; i = g.next_hi[i - 1]) try_arc(g, s, -g.cost[i - 1], u, g.lo[i - 1], i - 1);
 }
 
 // ---- search
@@ -112,7 +111,53 @@ bool search(const Ground &g, Search &s, size_t a, size_t b)
     return false;
 }
 
+// ---- chains
+
+// The last link above e of a chain, from link j on.
+size_t last_above(const size_t *next, size_t j, size_t e)
+{
+    while (e + 1 < next[j]) j = next[j] - 1;
+    return j;
+}
+
+void put_in(size_t *head, size_t *next, size_t v, size_t e)
+{
+    size_t first = head[v];
+    if (first <= e) {
+        next[e] = first, head[v] = e + 1;
+        return;
+    }
+    size_t j = last_above(next, first - 1, e);
+    next[e] = next[j], next[j] = e + 1;
+}
+
+void take_out(size_t *head, size_t *next, size_t v, size_t e)
+{
+    size_t first = head[v], after = next[e];
+    if (first == e + 1)
+        head[v] = after;
+    else
+        next[last_above(next, first - 1, e)] = after;
+}
+
+// Keeps or drops candidate t, a new one, and puts it into its chain.
+void enter(Ground &g, size_t t, const size_t *ends, size_t *head, size_t *next, bool stays)
+{
+    g.kept[t] = stays;
+    put_in(head, next, ends[t], t);
+}
+
 // ---- walk
+
+// A candidate leaves the chain of u, where its arc starts, for that of v.
+void turn(Ground &g, size_t e, size_t u, size_t v)
+{
+    g.kept[e] = !g.kept[e];
+    if (g.kept[e])
+        take_out(g.head_lo, g.next_lo, u, e), put_in(g.head_hi, g.next_hi, v, e);
+    else
+        take_out(g.head_hi, g.next_hi, u, e), put_in(g.head_lo, g.next_lo, v, e);
+}
 
 void flip(Ground &g, size_t e, size_t u, size_t v)
 {
@@ -121,7 +166,7 @@ void flip(Ground &g, size_t e, size_t u, size_t v)
     else if (e == 257)
         g.room[v] -= 1;
     else
-        g.kept[e] = !g.kept[e];
+        turn(g, e, u, v);
 }
 
 void walk_back(Ground &g, const Search &s, size_t a, size_t b)
@@ -160,31 +205,28 @@ void deepen(Ground &g, const size_t *label, size_t to)
         if (label[v] < to) g.dist[v] -= int64_t(to - label[v]);
 }
 
-void link(size_t t, const size_t *ends, size_t *head, size_t *next)
-{
-    size_t v = ends[t];
-    next[t] = head[v], head[v] = t + 1;
-}
-
 void insert(Ground &g, Search &s, size_t t)
 {
     size_t a = g.lo[t], b = g.hi[t];
-    if (room_between(g.room, a, b)) {
-        take_room(g.room, a, b);
-        g.kept[t] = true;
+    size_t gain = gain_of(g.cost[t], g.dist[a], g.dist[b]);
+    if (gain == 0) {
+        enter(g, t, g.lo, g.head_lo, g.next_lo, false);
         return;
     }
-    size_t gain = gain_of(g.cost[t], g.dist[a], g.dist[b]);
-    g.kept[t] = false;
-    if (gain == 0) return;
+    if (room_between(g.room, a, b)) {
+        take_room(g.room, a, b);
+        enter(g, t, g.hi, g.head_hi, g.next_hi, true);
+        return;
+    }
     s.most = gain;
     if (search(g, s, a, b)) {
         deepen(g, s.label, s.label[a]);
-        g.kept[t] = true;
+        enter(g, t, g.hi, g.head_hi, g.next_hi, true);
         walk_back(g, s, a, b);
         return;
     }
     deepen(g, s.label, gain);
+    enter(g, t, g.lo, g.head_lo, g.next_lo, false);
 }
 }  // namespace
 
@@ -193,10 +235,6 @@ void plan_row(size_t cells, size_t count, const size_t *lo, const size_t *hi, co
     Ground g = {cells, lo, hi, cost, kept, room, dist, {}, {}, {}, {}};
     Search s = {};
     level(dist, cells);
-    for (size_t t = 0; t < count; t++) {
-        insert(g, s, t);
-        link(t, lo, g.head_lo, g.next_lo);
-        link(t, hi, g.head_hi, g.next_hi);
-    }
+    for (size_t t = 0; t < count; t++) insert(g, s, t);
 }
 }  // namespace plain::planrow

@@ -265,11 +265,11 @@ pub chain-step-back : {g : Ground} {d : ℕ → ℕ} {u lit i : ℕ} → Spread 
     Spread g d u lit i
 chain-step-back {i = i} s holds = back-from s (λ j m l. let e : j ≡ i = omega arith in rw e holds)
 
--- over a gap in which no candidate starts, or ends, at u
-pub chain-skip-along : {g : Ground} {d : ℕ → ℕ} {u lit lit′ dim : ℕ} → Spread g d u lit dim → ((i : ℕ) → lit′ ≤ i → i < lit → i < g .t → g .row .lo i ≡ u → ⊥) →
-    Spread g d u lit′ dim
-chain-skip-along s none = along-from s (λ i m l n out q. absurd (none i m l n q))
+-- over a gap in which no dropped candidate starts, or no kept one ends, at u
+pub chain-skip-along : {g : Ground} {d : ℕ → ℕ} {u lit lit′ dim : ℕ} → Spread g d u lit dim →
+    ((i : ℕ) → lit′ ≤ i → i < lit → i < g .t → g .x i ≡ false → g .row .lo i ≡ u → ⊥) → Spread g d u lit′ dim
+chain-skip-along s none = along-from s (λ i m l n out q. absurd (none i m l n out q))
 
-pub chain-skip-back : {g : Ground} {d : ℕ → ℕ} {u lit dim dim′ : ℕ} → Spread g d u lit dim → ((i : ℕ) → dim′ ≤ i → i < dim → i < g .t → g .row .hi i ≡ u → ⊥) →
-    Spread g d u lit dim′
-chain-skip-back s none = back-from s (λ i m l n kept q. absurd (none i m l n q))
+pub chain-skip-back : {g : Ground} {d : ℕ → ℕ} {u lit dim dim′ : ℕ} → Spread g d u lit dim →
+    ((i : ℕ) → dim′ ≤ i → i < dim → i < g .t → g .x i ≡ true → g .row .hi i ≡ u → ⊥) → Spread g d u lit dim′
+chain-skip-back s none = back-from s (λ i m l n kept q. absurd (none i m l n kept q))

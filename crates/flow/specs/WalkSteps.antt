@@ -167,6 +167,13 @@ module _ {row : Row} {t : ℕ} {x : ℕ → Bool} {s N : ℕ → ℕ} {b : ℕ} 
   pub walk-in : from v ≤ row .cells
   walk-in = walk .from-in v (walk .node) (walk .ranked) (omega arith) going
 
+  -- the ends of a candidate's arc
+  pub along-ends : t ≤ 256 → by v < t → x (by v) ≡ false → (from v ≡ row .lo (by v)) × (v ≡ row .hi (by v))
+  along-ends small l off = is-along small l off arc
+
+  pub back-ends : t ≤ 256 → by v < t → x (by v) ≡ true → (from v ≡ row .hi (by v)) × (v ≡ row .lo (by v))
+  back-ends small l on = is-back small l on arc
+
   -- whatever is flipped: the cells that v moves by change as they should, and the arcs to other nodes stay open
   stepped :
       {x′ : ℕ → Bool} {s′ : ℕ → ℕ}

@@ -1,5 +1,5 @@
--- A node u spreads along the chain of the candidates that have one end at u, latest first. Between two links of the chain no candidate has
--- that end at u: so where a link is done, all is done from the next link on. Assumes nothing.
+-- A node u spreads along the chain of the dropped candidates that begin at u, or of the kept ones that end there, latest first. Between two links of
+-- the chain there is no other such candidate: so where a link is done, all is done from the next link on. Assumes nothing.
 use mathlib.Core.Bool.{Bool, true, false}
 use mathlib.Core.List.{List}
 use mathlib.Core.Path.{_≡_, refl, sym, ap, _∙_}
@@ -9,10 +9,9 @@ use lib.IntN.{ℤ, pos, _-ℤ_}
 use lib.ListN.{getD}
 use Rattle.signed.specs.Bits.{rd, back, within}
 use Rattle.signed.specs.Parts.{up, dn, Neg, neg}
-use Rattle.sums.specs.Each.{of-yes}
 use Rattle.flow.specs.Searching.{Ground, Spread}
-use Rattle.flow.specs.SearchSteps.{spread-relaxed, along-arc, back-arc, chain-step-along, chain-step-back}
-use Rattle.planrow.specs.State.{at, flag, depth, groundIn, Ready, Chained, Marks, Lacks, Tried, Spreads}
+use Rattle.flow.specs.SearchSteps.{spread-relaxed, along-arc, back-arc, chain-step-along, chain-step-back, chain-skip-along, chain-skip-back}
+use Rattle.planrow.specs.State.{at, flag, depth, groundIn, Ready, Latest, Chained, Marks, Lacks, Tried, Spreads}
 use Rattle.planrow.specs.Relaxed.{cost-back, passing, relaxing}
 use Rattle.planrow.specs.Stages.{spreads-on}
 
@@ -25,51 +24,50 @@ DroppedFrom i g u d = Spread g d u i (g .t)
 abbrev pub KeptFrom : ℕ → Ground → ℕ → (ℕ → ℕ) → Type 0
 KeptFrom i g u d = Spread g d u 0 i
 
+-- a gap with none of these in it is done
+pub skip-dropped : {g : Ground} {u : ℕ} (d : ℕ → ℕ) (i j : ℕ) → DroppedFrom i g u d → ((k : ℕ) → j ≤ k → k < i → (k < g .t) × (g .x k ≡ false) → g .row .lo k ≡ u → ⊥) → DroppedFrom j g u d
+skip-dropped d i j s none = chain-skip-along s (λ k m l n out. none k m l (n, out))
+
+pub skip-kept : {g : Ground} {u : ℕ} (d : ℕ → ℕ) (i j : ℕ) → KeptFrom i g u d → ((k : ℕ) → j ≤ k → k < i → (k < g .t) × (g .x k ≡ true) → g .row .hi k ≡ u → ⊥) → KeptFrom j g u d
+skip-kept d i j s none = chain-skip-back s (λ k m l n stays. none k m l (n, stays))
+
 -- u has followed its chain down to i: it has got from stage First to From i
-pub record Followed (g : Ground) (most : ℕ) (First : Ground → ℕ → (ℕ → ℕ) → Type 0) (From : ℕ → Ground → ℕ → (ℕ → ℕ) → Type 0) (ends : List ℕ) (u : ℕ) (m₀ m : Marks) (i : ℕ) : Type 0 where
-  pub upto : i ≤ g .t
-  pub here : (e : ℕ) → i ≡ suc e → at ends e ≡ u
+pub record Followed (g : Ground) (most : ℕ) (First : Ground → ℕ → (ℕ → ℕ) → Type 0) (From : ℕ → Ground → ℕ → (ℕ → ℕ) → Type 0) (In : ℕ → Type 0) (ends : ℕ → ℕ) (u : ℕ) (m₀ m : Marks) (i : ℕ) : Type 0 where
+  pub here : (e : ℕ) → i ≡ suc e → In e × (ends e ≡ u)
   pub spreads : Spreads g most First (From i) u m₀ m
 
--- no candidate in a gap of the chain has its end at u: `skip` says that the gap is done
+-- no link in a gap of the chain has its end at u: `skip` says that the gap is done
 module _
     {g : Ground}
     {First : Ground → ℕ → (ℕ → ℕ) → Type 0}
     {From : ℕ → Ground → ℕ → (ℕ → ℕ) → Type 0}
-    {ends head next : List ℕ}
+    {In : ℕ → Type 0}
+    {ends : ℕ → ℕ}
+    {head next : List ℕ}
     {u : ℕ}
-    (skip : (d : ℕ → ℕ) (i j : ℕ) → From i g u d → ((k : ℕ) → j ≤ k → k < i → k < g .t → at ends k ≡ u → ⊥) → From j g u d)
-    (chain : Chained (g .row .cells) (g .t) ends head next) where
-  pub begun : {most : ℕ} {m : Marks} → u ≤ g .row .cells → ((d : ℕ → ℕ) → First g u d → From (g .t) g u d) → Followed g most First From ends u m m (at head u)
+    (skip : (d : ℕ → ℕ) (i j : ℕ) → From i g u d → ((k : ℕ) → j ≤ k → k < i → In k → ends k ≡ u → ⊥) → From j g u d)
+    (chain : Chained (g .row .cells) In ends head next) where
+  pub begun : {most : ℕ} {m : Marks} → u ≤ g .row .cells → ((d : ℕ → ℕ) → First g u d → From (g .t) g u d) → Followed g most First From In ends u m m (at head u)
   begun inside first = record {
-    upto = chain .head-in u inside;
-    here = λ e. chain .head-end u e inside;
-    spreads = passing (λ s. skip _ _ _ (first _ s) (λ k m l n q. omega (arith, chain .head-last u k inside n q)));
+    here = chain .heads u inside .one;
+    spreads = passing (λ s. skip _ _ _ (first _ s) (λ k m l n q. omega (arith, chain .heads u inside .last k (chain .few k n) (n, q))));
   }
 
   -- link e is done
-  pub followed : {most : ℕ} {m₀ m m′ : Marks} {i e : ℕ} → i ≡ suc e → Followed g most First From ends u m₀ m i →
-      Spreads g most (From (suc e)) (From e) u m m′ → Followed g most First From ends u m₀ m′ (at next e)
+  pub followed : {most : ℕ} {m₀ m m′ : Marks} {i e : ℕ} → i ≡ suc e → Followed g most First From In ends u m₀ m i →
+      Spreads g most (From (suc e)) (From e) u m m′ → Followed g most First From In ends u m₀ m′ (at next e)
   followed {e = e} q f done = record {
-    upto = omega (arith, chain .next-in e inside);
-    here = λ k p. chain .next-end e k inside p ∙ f .here e q;
-    spreads = spreads-on (spreads-on (rw q at (f .spreads)) done) (passing (λ s. skip _ _ _ s (λ k m l n r. omega (arith, chain .next-last e k inside l (r ∙ sym (f .here e q))))));
+    here = λ k p. let o = after .one k p in (o .0, o .1 ∙ own .1);
+    spreads = spreads-on (spreads-on (rw q at (f .spreads)) done) (passing (λ s. skip _ _ _ s (λ k m l n r. omega (arith, after .last k l (n, r ∙ sym (own .1))))));
   }
     where
-      inside : e < g .t
-      inside = omega arith
+      own : In e × (ends e ≡ u)
+      own = f .here e q
+
+      after : Latest (λ i. In i × (ends i ≡ ends e)) e (at next e)
+      after = chain .nexts e (own .0)
 
 -- ---- one link: the arc out of u along dropped candidate e, or back along kept candidate e
-
--- no candidate is both: where there is no arc, the link is done
-one-side : {x : Bool} → x ≡ false → x ≡ true → ⊥
-one-side out stays = of-yes (sym out ∙ stays)
-
-pub along-none : {g : Ground} {most u e : ℕ} {m : Marks} → g .x e ≡ true → Spreads g most (DroppedFrom (suc e)) (DroppedFrom e) u m m
-along-none stays = passing (λ s. chain-step-along s (λ l out. absurd (one-side out stays)))
-
-pub back-none : {g : Ground} {most u e : ℕ} {m : Marks} → g .x e ≡ false → Spreads g most (KeptFrom (suc e)) (KeptFrom e) u m m
-back-none out = passing (λ s. chain-step-back s (λ l stays. absurd (one-side out stays)))
 
 module _
     {cells t : ℕ}

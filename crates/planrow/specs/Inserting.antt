@@ -20,14 +20,14 @@ use Rattle.flow.specs.Walking.{between}
 use Rattle.planrow.specs.Bare.{proper-limited, deep-limited, reached-limited, unreached-limited}
 use Rattle.planrow.specs.Fewer.{proper-fewer, below-fewer}
 use Rattle.planrow.specs.SameDepths.{balanced-same}
-use Rattle.planrow.specs.State.{at, flag, depth, rowIn, groundIn, Ready, Deepened, Gains, Searched, Standing, CanInsert, CanWalk}
+use Rattle.planrow.specs.State.{at, flag, depth, rowIn, groundIn, Ready, Deepened, Gains, Searched, Links, Chains, Standing, CanInsert, CanWalk}
 
 -- what candidate t gains at these distances, over its cells' prices
 abbrev pub gainIn : ℕ → List ℕ → List ℕ → List ℤ → List ℤ → ℕ
 gainIn t lo hi cost dist = depth dist (at lo t) + depth cost t - depth dist (at hi t)
 
-module _ {cells t : ℕ} {lo hi : List ℕ} {cost : List ℤ} {kept : List Bool} {room : List ℕ} {dist : List ℤ} {headLo nextLo headHi nextHi : List ℕ}
-    (w : CanInsert cells t lo hi cost kept room dist headLo nextLo headHi nextHi)
+module _ {cells t : ℕ} {lo hi : List ℕ} {cost : List ℤ} {kept : List Bool} {room : List ℕ} {dist : List ℤ} {ls : Links}
+    (w : CanInsert cells t lo hi cost kept room dist ls)
   where
     -- ---- what the calls ask
 
@@ -121,8 +121,9 @@ module _ {cells t : ℕ} {lo hi : List ℕ} {cost : List ℤ} {kept : List Bool}
       dropped-after s miss deeper = deepened (omega (arith, gain-upto)) deeper (insert-dropped (proper-limited (w .proper)) (w .standing .balanced) (omega arith) (others false) (unreached-limited (s .unreached miss)) (own long))
 
       -- a way back was found: it can be walked
-      pub walkable : {label rank by from : List ℕ} {found : Bool} → Searched (groundIn cells t lo hi cost kept room dist) (at lo t) (at hi t) gain label rank by from found → found ≡ true → CanWalk (set kept t true) room rank by from (at lo t) (at hi t)
-      walkable {label} s hit = record {
+      pub walkable : {label rank by from : List ℕ} {found : Bool} → Searched (groundIn cells t lo hi cost kept room dist) (at lo t) (at hi t) gain label rank by from found → found ≡ true →
+          {kept′ : List Bool} {ls′ : Links} → kept′ ≡ set kept t true → Chains cells (suc t) (at lo) (at hi) kept′ ls′ → CanWalk kept′ room ls′ rank by from (at lo t) (at hi t)
+      walkable {label} s hit on c = record {
         row = rowIn (w .limit) (w .count) cells lo hi cost;
         t = suc t;
         N = raised (at label (at lo t)) (depth dist) (at label);
@@ -130,12 +131,20 @@ module _ {cells t : ℕ} {lo hi : List ℕ} {cost : List ℤ} {kept : List Bool}
         t-upto = w .t-upto;
         proper = proper-limited (w .proper);
         limits = w .limits;
-        walking = insert-walks (proper-limited (w .proper)) (w .standing .balanced) (omega arith) (others true) (reached-limited (s .reached hit)) (own long);
+        walking = rw on (insert-walks (proper-limited (w .proper)) (w .standing .balanced) (omega arith) (others true) (reached-limited (s .reached hit)) (own long));
+        chains = c;
       }
 
-      -- and once it is walked the row stands
-      pub kept-by-walk : {label rank by from : List ℕ} {found : Bool} {kept′ : List Bool} {room′ : List ℕ} {dist′ : List ℤ} →
-          Searched (groundIn cells t lo hi cost kept room dist) (at lo t) (at hi t) gain label rank by from found → found ≡ true → Deepened cells (at label (at lo t)) label dist dist′ →
-          ((v : CanWalk (set kept t true) room rank by from (at lo t) (at hi t)) → Balanced (v .row) (v .t) (flag kept′) (at room′) (v .N)) → Standing (w .limit) (w .count) cells (suc t) lo hi cost kept′ room′ dist′
-      unfolding walkable
-      kept-by-walk s hit deeper walked = deepened (omega (arith, gain-upto, s .reached hit .shorter)) deeper (walked (walkable s hit))
+      -- and once it is walked the row stands, and the chains follow its flags
+      module _ {label rank by from : List ℕ} {found : Bool} {kept′ : List Bool} {ls′ : Links} (s : Searched (groundIn cells t lo hi cost kept room dist) (at lo t) (at hi t) gain label rank by from found) (hit : found ≡ true)
+          (on : kept′ ≡ set kept t true) (c : Chains cells (suc t) (at lo) (at hi) kept′ ls′)
+        where
+          pub kept-by-walk : {kept″ : List Bool} {room′ : List ℕ} {dist′ : List ℤ} → Deepened cells (at label (at lo t)) label dist dist′ →
+              ((v : CanWalk kept′ room ls′ rank by from (at lo t) (at hi t)) → Balanced (v .row) (v .t) (flag kept″) (at room′) (v .N)) → Standing (w .limit) (w .count) cells (suc t) lo hi cost kept″ room′ dist′
+          unfolding walkable
+          kept-by-walk deeper walked = deepened (omega (arith, gain-upto, s .reached hit .shorter)) deeper (walked (walkable s hit on c))
+
+          pub chains-walked : {kept″ : List Bool} {ls″ : Links} →
+              ((v : CanWalk kept′ room ls′ rank by from (at lo t) (at hi t)) → Chains (v .row .cells) (v .t) (v .row .lo) (v .row .hi) kept″ ls″) → Chains cells (suc t) (at lo) (at hi) kept″ ls″
+          unfolding walkable
+          chains-walked walked = walked (walkable s hit on c)

@@ -10,7 +10,11 @@ pub mod OpenNodes
 pub mod SearchLoop
 pub mod Rooms
 pub mod Depths
+pub mod Joining
+pub mod Latest
 pub mod Link
+pub mod Moves
+pub mod Flags
 pub mod WalkBack
 pub mod Bare
 pub mod Fewer

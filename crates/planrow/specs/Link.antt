@@ -1,14 +1,16 @@
--- Candidate t becomes the head of the chain of its end, and what was the head comes next after it. Only one node's head and one candidate's
--- next change, so each fact of the longer chains is either one about candidate t or one that held before. Assumes nothing.
+-- Candidate e, with its end at v, joins a chain or leaves it. A chain is by falling number, so e stands after the last link above it: the pointer of that
+-- link, or of the node where there is none, is the only one that changes, beside e's own. Assumes nothing.
 use mathlib.Core.Path.{_≡_, sym, ap, _∙_}
 use mathlib.Core.List.{List}
 use mathlib.Core.Logic.{⊎-elim}
 use Prim.Native.Nat.{ℕ, suc, _+_, _≤_, _<_}
 use native.Mathlib.Omega.{arith}
-use lib.ListN.{length, set}
+use lib.ListN.{length, set, length-set}
 use lib.Seq.{getD-set-same, getD-set-other}
-use Rattle.sums.specs.Each.{same-or-not}
-use Rattle.planrow.specs.State.{at, Chained}
+use Rattle.sums.specs.Each.{same-or-not, less-or-not}
+use Rattle.planrow.specs.State.{at, Latest, Chained}
+use Rattle.planrow.specs.Joining.{Joins, Above}
+use Rattle.planrow.specs.Latest.{At, stays, raised, own-next, spared, lowered}
 
 -- an array after one store, at the place stored and at any other
 stored : (xs : List ℕ) (i a j : ℕ) → i < length xs → j ≡ i → at (set xs i a) j ≡ a
@@ -17,48 +19,87 @@ stored xs i a j l q = rw q (getD-set-same xs i a 0 l)
 others : (xs : List ℕ) (i a j : ℕ) → (j ≡ i → ⊥) → at (set xs i a) j ≡ at xs j
 others xs i a j n = getD-set-other xs i j a 0 n
 
-pub linked :
-    {cells t : ℕ} {ends head next : List ℕ}
-    → at ends t < length head
-    → t < length next
-    → Chained cells t ends head next
-    → at ends t ≤ cells
-    → Chained cells (suc t) ends (set head (at ends t) (t + 1)) (set next t (at head (at ends t)))
-linked {cells} {t} {ends} {head} {next} in-head in-next old in-row = record {
-  head-in = λ v l. ⊎-elim (λ q. omega (arith, head-new v q)) (λ n. omega (arith, head-old v n, old .head-in v l)) (same-or-not v u);
-  head-end = λ v i l e. ⊎-elim (λ q. newest i (omega (arith, head-new v q)) ∙ sym q) (λ n. old .head-end v i l (sym (head-old v n) ∙ e)) (same-or-not v u);
-  head-last = λ v i l h e. ⊎-elim
-      (λ q. omega (arith, head-new v q))
-      (λ n. omega (arith, head-old v n, old .head-last v i l (earlier i h (λ q. n (sym e ∙ newest i q))) e))
-      (same-or-not v u);
-  next-in = λ j h. ⊎-elim (λ q. omega (arith, next-new j q, old .head-in u in-row)) (λ n. omega (arith, next-old j n, old .next-in j (earlier j h n))) (same-or-not j t);
-  next-end = λ j i h e. ⊎-elim
-      (λ q. old .head-end u i in-row (sym (next-new j q) ∙ e) ∙ sym (newest j q))
-      (λ n. old .next-end j i (earlier j h n) (sym (next-old j n) ∙ e))
-      (same-or-not j t);
-  next-last = λ j i h l e. ⊎-elim
-      (λ q. omega (arith, next-new j q, old .head-last u i in-row (omega arith) (e ∙ newest j q)))
-      (λ n. omega (arith, next-old j n, old .next-last j i (earlier j h n) l e))
-      (same-or-not j t);
-}
-  where
-    u : ℕ
-    u = at ends t
+module _ {In In′ : ℕ → Type 0} {ends : ℕ → ℕ} {e : ℕ} (k : Joins In In′ e) {cells : ℕ} {head next : List ℕ} {v : ℕ} (node : v ≤ cells) (number : e < 256) (here : ends e ≡ v) where
+  module _ (c : Chained cells In ends head next) where
+    few-new : (i : ℕ) → In′ i → i < 256
+    few-new i o = ⊎-elim (λ (q : i ≡ e). omega arith) (λ n. c .few i (k .rest i o n)) (same-or-not i e)
 
-    newest : (i : ℕ) → i ≡ t → at ends i ≡ u
-    newest i q = ap (at ends) q
+    -- no link is above e
+    pub put-first : v < length head → e < length next → at head v ≤ e → Chained cells In′ ends (set head v (e + 1)) (set next e (at head v))
+    put-first in-head in-next first = record {
+      few = few-new;
+      heads = λ w l. ⊎-elim
+          (λ (q : w ≡ v). rw (stored head v (e + 1) w in-head q) (raised k (here ∙ sym q) number (omega (arith, ap (at head) q)) (c .heads w l)))
+          (λ n. rw (others head v (e + 1) w n) (stays k (λ h q. absurd (n (sym q ∙ here))) (c .heads w l)))
+          (same-or-not w v);
+      nexts = λ j o. ⊎-elim
+          (λ (q : j ≡ e). rw (stored next e (at head v) j in-next q, q, here) (own-next k number first (c .heads v node)))
+          (λ n. let i = k .rest j o n in
+          rw (others next e (at head v) j n)
+          (stays k (λ h q. absurd (omega (arith, c .heads v node .last j (c .few j i) (i, sym q ∙ here)))) (c .nexts j i)))
+          (same-or-not j e);
+    }
 
-    earlier : (i : ℕ) → i < suc t → (i ≡ t → ⊥) → i < t
-    earlier i h n = omega arith
+    -- link r is the last above e
+    pub put-after : {r : ℕ} → e < length next → r < length next → Above In ends next v e r → Chained cells In′ ends head (set (set next e (at next r)) r (e + 1))
+    put-after {r} e-in r-in b = record {
+      few = few-new;
+      heads = λ w l. stays k (λ h q. omega (arith, c .heads w l .last r (c .few r (b .link)) (b .link, b .end-at ∙ sym here ∙ q), b .above)) (c .heads w l);
+      nexts = λ j o. ⊎-elim
+          (λ (q : j ≡ r). rw (stored (set next e (at next r)) r (e + 1) j (rw length-set r-in) q, q) (raised k (here ∙ sym (b .end-at)) (b .above) earlier (c .nexts r (b .link))))
+          (λ n. rw (others (set next e (at next r)) r (e + 1) j n) (⊎-elim
+          (λ (q : j ≡ e). rw (stored next e (at next r) j e-in q, q, here ∙ sym (b .end-at)) (own-next k (b .above) earlier (c .nexts r (b .link))))
+          (λ m. let i = k .rest j o m in rw (others next e (at next r) j m) (stays k (λ h q. later j n i h (sym q ∙ here)) (c .nexts j i)))
+          (same-or-not j e)))
+          (same-or-not j r);
+    }
+      where
+        earlier : at next r ≤ e
+        earlier = ⊎-elim (λ (q : at next r ≡ suc e). absurd (k .outside (c .nexts r (b .link) .one e q .0))) (λ n. omega (arith, b .last)) (same-or-not (at next r) (suc e))
 
-    head-new : (v : ℕ) → v ≡ u → at (set head u (t + 1)) v ≡ t + 1
-    head-new v q = stored head u (t + 1) v in-head q
+        -- any other link above e is above r
+        later : (j : ℕ) → (j ≡ r → ⊥) → In j → e < j → ends j ≡ v → e < at next j
+        later j n i h q =
+            ⊎-elim
+            (λ (l : j < r). absurd (omega (arith, c .nexts r (b .link) .last j l (i, q ∙ sym (b .end-at)), b .last)))
+            (λ l. omega (arith, c .nexts j i .last r (omega arith) (b .link, b .end-at ∙ sym q), b .above))
+            (less-or-not j r)
 
-    head-old : (v : ℕ) → (v ≡ u → ⊥) → at (set head u (t + 1)) v ≡ at head v
-    head-old v n = others head u (t + 1) v n
+  module _ (c : Chained cells In′ ends head next) where
+    few-old : (i : ℕ) → In i → i < 256
+    few-old i o = c .few i (k .stay i o)
 
-    next-new : (j : ℕ) → j ≡ t → at (set next t (at head u)) j ≡ at head u
-    next-new j q = stored next t (at head u) j in-next q
+    -- e is the first link
+    pub take-first : v < length head → at head v ≡ e + 1 → Chained cells In ends (set head v (at next e)) next
+    take-first in-head first = record {
+      few = few-old;
+      heads = λ w l. ⊎-elim
+          (λ (q : w ≡ v). rw (stored head v (at next e) w in-head q) (lowered k (omega (arith, ap (at head) q)) (c .heads w l) (c .nexts e (k .own))))
+          (λ n. rw (others head v (at next e) w n) (spared k (λ q. n (sym (c .heads w l .one e q .1) ∙ here)) (c .heads w l)))
+          (same-or-not w v);
+      nexts = λ j o. let i = k .stay j o in let l = c .nexts j i in
+          spared k (λ q. omega (arith, l .upto, c .heads v node .last j (c .few j i) (i, sym (l .one e q .1) ∙ here))) l;
+    }
 
-    next-old : (j : ℕ) → (j ≡ t → ⊥) → at (set next t (at head u)) j ≡ at next j
-    next-old j n = others next t (at head u) j n
+    -- link r comes before it
+    pub take-after : {r : ℕ} → r < length next → Above In′ ends next v e r → Chained cells In ends head (set next r (at next e))
+    take-after {r} r-in b = record {
+      few = few-old;
+      heads = λ w l. spared k (λ q. omega (arith, b .above, c .heads w l .last r (c .few r (b .link)) (b .link, b .end-at ∙ sym here ∙ c .heads w l .one e q .1))) (c .heads w l);
+      nexts = λ j o. let i = k .stay j o in ⊎-elim
+          (λ (q : j ≡ r). rw (stored next r (at next e) j r-in q, q) (lowered k to-e (c .nexts r (b .link)) (c .nexts e (k .own))))
+          (λ n. rw (others next r (at next e) j n) (spared k (λ q. other j n i q (c .nexts j i)) (c .nexts j i)))
+          (same-or-not j r);
+    }
+      where
+        to-e : at next r ≡ suc e
+        to-e = omega (arith, b .last, c .nexts r (b .link) .last e (b .above) (k .own, here ∙ sym (b .end-at)))
+
+        -- no other link leads to e
+        other : (j : ℕ) → (j ≡ r → ⊥) → In′ j → at next j ≡ suc e → Latest (At In′ ends (ends j)) j (at next j) → ⊥
+        other j n i q l =
+            let same : ends j ≡ v = sym (l .one e q .1) ∙ here in
+            ⊎-elim
+            (λ (h : j < r). omega (arith, l .upto, b .last, c .nexts r (b .link) .last j h (i, same ∙ sym (b .end-at))))
+            (λ h. omega (arith, b .above, l .last r (omega arith) (b .link, b .end-at ∙ sym same)))
+            (less-or-not j r)

@@ -48,15 +48,50 @@ pub record Ready (cells t : ℕ) (lo hi : List ℕ) (cost : List ℤ) (kept : Li
   pub dists : Below dist (suc cells) 256000000
   pub deep : Deep (bare cells lo hi cost) t (flag kept) (at room) (depth dist)
 
--- The candidates by one of their ends, latest first, for the first t of them: head v is 1 past the latest that has its end at node v, next i is 1 past
--- the latest before i with the same end; 0 is none.
-pub record Chained (cells t : ℕ) (ends head next : List ℕ) : Type 0 where
-  pub head-in : (v : ℕ) → v ≤ cells → at head v ≤ t
-  pub head-end : (v i : ℕ) → v ≤ cells → at head v ≡ suc i → at ends i ≡ v
-  pub head-last : (v i : ℕ) → v ≤ cells → i < t → at ends i ≡ v → suc i ≤ at head v
-  pub next-in : (j : ℕ) → j < t → at next j ≤ j
-  pub next-end : (j i : ℕ) → j < t → at next j ≡ suc i → at ends i ≡ at ends j
-  pub next-last : (j i : ℕ) → j < t → i < j → at ends i ≡ at ends j → suc i ≤ at next j
+-- ---- chains of candidates
+
+-- a candidate of the first t whose flag is `side`
+abbrev pub Flagged : Bool → ℕ → List Bool → ℕ → Type 0
+Flagged side t kept i = (i < t) × (flag kept i ≡ side)
+
+-- p is 1 past the latest number below `bound` that is one of these, and 0 where none is
+pub record Latest (One : ℕ → Type 0) (bound p : ℕ) : Type 0 where
+  pub upto : p ≤ bound
+  pub one : (i : ℕ) → p ≡ suc i → One i
+  pub last : (i : ℕ) → i < bound → One i → i < p
+
+-- Some candidates by one of their ends, latest first: head v is 1 past the latest that has its end at node v, next j is 1 past the latest before j
+-- with the same end; 0 is none.
+pub record Chained (cells : ℕ) (In : ℕ → Type 0) (ends : ℕ → ℕ) (head next : List ℕ) : Type 0 where
+  pub few : (i : ℕ) → In i → i < 256
+  pub heads : (v : ℕ) → v ≤ cells → Latest (λ i. In i × (ends i ≡ v)) 256 (at head v)
+  pub nexts : (j : ℕ) → In j → Latest (λ i. In i × (ends i ≡ ends j)) j (at next j)
+
+-- the arrays of the chains by first node, and of those by last
+pub record Links : Type 0 where
+  pub headLo : List ℕ
+  pub nextLo : List ℕ
+  pub headHi : List ℕ
+  pub nextHi : List ℕ
+
+abbrev pub links : List ℕ → List ℕ → List ℕ → List ℕ → Links
+links headLo nextLo headHi nextHi = record { headLo = headLo; nextLo = nextLo; headHi = headHi; nextHi = nextHi }
+
+-- of the first t candidates the dropped ones by their first node, where arcs along them start, and the kept ones by their last, where arcs back start
+pub record Chains (cells t : ℕ) (lo hi : ℕ → ℕ) (kept : List Bool) (ls : Links) : Type 0 where
+  pub dropped : Chained cells (Flagged false t kept) lo (ls .headLo) (ls .nextLo)
+  pub held : Chained cells (Flagged true t kept) hi (ls .headHi) (ls .nextHi)
+
+-- arc e of a walk, from u to v, belongs to a candidate, which can be turned round
+pub record CanTurn (row : Row) (t : ℕ) (kept : List Bool) (ls : Links) (e u v : ℕ) : Type 0 where
+  pub cells-upto : row .cells ≤ 127
+  pub t-upto : t ≤ 256
+  pub candidate : e < t
+  pub near-in : u ≤ row .cells
+  pub far-in : v ≤ row .cells
+  pub along : flag kept e ≡ false → (u ≡ row .lo e) × (v ≡ row .hi e)
+  pub back : flag kept e ≡ true → (u ≡ row .hi e) × (v ≡ row .lo e)
+  pub chains : Chains (row .cells) t (row .lo) (row .hi) kept ls
 
 -- ---- what the functions promise
 
@@ -165,7 +200,7 @@ pub record Deepened (cells to : ℕ) (label : List ℕ) (dist dist′ : List ℤ
   pub deeper : (v : ℕ) → v ≤ cells → depth dist′ v ≡ raised to (depth dist) (at label) v
 
 -- a walk back that can be made
-pub record CanWalk (kept : List Bool) (room rank by from : List ℕ) (a b : ℕ) : Type 0 where
+pub record CanWalk (kept : List Bool) (room : List ℕ) (ls : Links) (rank by from : List ℕ) (a b : ℕ) : Type 0 where
   pub row : Row
   pub t : ℕ
   pub N : ℕ → ℕ
@@ -174,22 +209,31 @@ pub record CanWalk (kept : List Bool) (room rank by from : List ℕ) (a b : ℕ)
   pub proper : Proper row t
   pub limits : (j : ℕ) → j < row .cells → row .limit j ≤ 1000
   pub walking : Walking row t (flag kept) (at room) N b (at rank) (at by) (at from) a
+  pub chains : Chains (row .cells) t (row .lo) (row .hi) kept ls
 
 -- one arc of a walk: its number, and the room that a cell has to give or to take
-pub record CanFlip (kept : List Bool) (room : List ℕ) (e u v : ℕ) : Type 0 where
+pub record CanFlip (kept : List Bool) (room : List ℕ) (ls : Links) (e u v : ℕ) : Type 0 where
   pub arc : e ≤ 257
   pub up-cell : e ≡ 256 → u < 128
   pub up-room : e ≡ 256 → at room u ≤ 2000
   pub down-cell : e ≡ 257 → v < 128
   pub down-room : e ≡ 257 → 0 < at room v
+  pub turn : e < 256 → (row : Row) × (t : ℕ) × CanTurn row t kept ls e u v
 
-pub record Flipped (kept : List Bool) (room : List ℕ) (kept′ : List Bool) (room′ : List ℕ) (e u v : ℕ) : Type 0 where
+-- candidate e is turned round, and goes from one chain to the other
+pub record Turned (kept : List Bool) (ls : Links) (kept′ : List Bool) (ls′ : Links) (e u v : ℕ) : Type 0 where
+  pub flags : kept′ ≡ set kept e (not (flag kept e))
+  pub chains : (row : Row) (t : ℕ) → CanTurn row t kept ls e u v → Chains (row .cells) t (row .lo) (row .hi) kept′ ls′
+
+pub record Flipped (kept : List Bool) (room : List ℕ) (ls : Links) (kept′ : List Bool) (room′ : List ℕ) (ls′ : Links) (e u v : ℕ) : Type 0 where
   pub up-kept : e ≡ 256 → kept′ ≡ kept
   pub up-room : e ≡ 256 → room′ ≡ set room u (at room u + 1)
+  pub up-links : e ≡ 256 → ls′ ≡ ls
   pub down-kept : e ≡ 257 → kept′ ≡ kept
   pub down-room : e ≡ 257 → room′ ≡ set room v (at room v - 1)
-  pub turn-kept : e < 256 → kept′ ≡ set kept e (not (flag kept e))
+  pub down-links : e ≡ 257 → ls′ ≡ ls
   pub turn-room : e < 256 → room′ ≡ room
+  pub turned : e < 256 → Turned kept ls kept′ ls′ e u v
 
 -- the numbers that a candidate's gain is made of
 pub record Gains (cost near far : ℤ) : Type 0 where
@@ -218,7 +262,7 @@ pub record CanPlan (cells count : ℕ) (lo hi : List ℕ) (cost : List ℤ) (roo
   pub limits : (j : ℕ) → j < cells → at room j ≤ 1000
 
 -- candidate t can be inserted: the row as it is after t candidates, with its limits
-pub record CanInsert (cells t : ℕ) (lo hi : List ℕ) (cost : List ℤ) (kept : List Bool) (room : List ℕ) (dist : List ℤ) (headLo nextLo headHi nextHi : List ℕ) : Type 0 where
+pub record CanInsert (cells t : ℕ) (lo hi : List ℕ) (cost : List ℤ) (kept : List Bool) (room : List ℕ) (dist : List ℤ) (ls : Links) : Type 0 where
   pub cells-upto : cells ≤ 127
   pub t-upto : t < 256
   pub proper : Proper (bare cells lo hi cost) (suc t)
@@ -227,5 +271,4 @@ pub record CanInsert (cells t : ℕ) (lo hi : List ℕ) (cost : List ℤ) (kept 
   pub count : ℕ
   pub limits : (j : ℕ) → j < cells → limit j ≤ 1000
   pub standing : Standing limit count cells t lo hi cost kept room dist
-  pub by-lo : Chained cells t lo headLo nextLo
-  pub by-hi : Chained cells t hi headHi nextHi
+  pub chains : Chains cells t (at lo) (at hi) kept ls

@@ -1,11 +1,12 @@
 // The arcs out of a node that has been settled, and the labels that they shorten. Every function that spreads is lent the whole ground of the search, so
 // that one record says what it is.
 ghost use mathlib.Core.Path.{_≡_};
+ghost use mathlib.Core.Bool.{true, false};
 ghost use Prim.Native.Nat.{suc, _+_, _≤_, _<_};
 ghost use lib.ListN.{getD, set};
 ghost use lib.IntN.{pos, _-ℤ_};
 ghost use Rattle.signed.specs.Parts.{up, dn};
-ghost use Rattle.planrow.specs.State.{at, groundIn, Ready, Chained, marks, Relaxation, Lacks, Tried, Spreads, Nothing, UpDone, CellsDone, DroppedDone, AllDone};
+ghost use Rattle.planrow.specs.State.{at, groundIn, Ready, Flagged, Chained, marks, Relaxation, Lacks, Tried, Spreads, Nothing, UpDone, CellsDone, DroppedDone, AllDone};
 
 // What an arc of this cost lacks to lower its far end: never below 0.
 pub fn length_left(cost: i64, near: i64, far: i64) -> usize
@@ -172,16 +173,14 @@ pub fn spread_dropped(
 ) -> usize
     requires { ⌜ Ready cells t (now lo) (now hi) (now cost) (now kept) (now room) (now dist) ⌝ }
     requires { ⌜ (u ≤ cells) × (at (now label) u ≤ 1000000) ⌝ }
-    requires { ⌜ Chained cells t (now lo) (now head) (now next) ⌝ }
+    requires { ⌜ Chained cells (Flagged false t (now kept)) (at (now lo)) (now head) (now next) ⌝ }
     ensures { λ r. ⌜ Spreads (groundIn cells t (now (lo .entry)) (now (hi .entry)) (now (cost .entry)) (now (kept .entry)) (now (room .entry)) (now (dist .entry))) most CellsDone DroppedDone u (marks (now (label .entry)) (now (by .entry)) (now (from .entry)) (now (list .entry)) size) (marks (now (label .exit)) (now (by .exit)) (now (from .exit)) (now (list .exit)) r) ⌝ }
 {
     let mut n = size;
     let mut i = head[u];
     while 0 < i {
         let e = i - 1;
-        if !kept[e] {
-            n = try_arc(cost[e], dist, most, label, by, from, list, n, u, hi[e], e);
-        }
+        n = try_arc(cost[e], dist, most, label, by, from, list, n, u, hi[e], e);
         i = next[e];
     }
     n
@@ -209,17 +208,15 @@ pub fn spread_kept(
 ) -> usize
     requires { ⌜ Ready cells t (now lo) (now hi) (now cost) (now kept) (now room) (now dist) ⌝ }
     requires { ⌜ (u ≤ cells) × (at (now label) u ≤ 1000000) ⌝ }
-    requires { ⌜ Chained cells t (now hi) (now head) (now next) ⌝ }
+    requires { ⌜ Chained cells (Flagged true t (now kept)) (at (now hi)) (now head) (now next) ⌝ }
     ensures { λ r. ⌜ Spreads (groundIn cells t (now (lo .entry)) (now (hi .entry)) (now (cost .entry)) (now (kept .entry)) (now (room .entry)) (now (dist .entry))) most DroppedDone AllDone u (marks (now (label .entry)) (now (by .entry)) (now (from .entry)) (now (list .entry)) size) (marks (now (label .exit)) (now (by .exit)) (now (from .exit)) (now (list .exit)) r) ⌝ }
 {
     let mut n = size;
     let mut i = head[u];
     while 0 < i {
         let e = i - 1;
-        if kept[e] {
-            let back = reversed(cost[e]);
-            n = try_arc(back, dist, most, label, by, from, list, n, u, lo[e], e);
-        }
+        let back = reversed(cost[e]);
+        n = try_arc(back, dist, most, label, by, from, list, n, u, lo[e], e);
         i = next[e];
     }
     n

@@ -1,10 +1,11 @@
 // Inserting one candidate, and what goes with it.
 ghost use mathlib.Core.Path.{_≡_};
 ghost use mathlib.Core.Bool.{true};
-ghost use Prim.Native.Nat.{ℕ, suc, _+_, _-_, _*_, _≤_, _<_};
-ghost use Rattle.signed.specs.Parts.{up, dn};
+ghost use Prim.Native.Nat.{ℕ, suc, _+_, _-_, _≤_, _<_};
+ghost use Rattle.signed.specs.Parts.{dn};
 ghost use Rattle.flow.specs.Walking.{between};
-ghost use Rattle.planrow.specs.State.{at, Below, Chained, Deepened, CanInsert, Standing, Gains, Flat};
+ghost use Rattle.planrow.specs.State.{at, Below, links, Chains, Deepened, CanInsert, Standing, Gains, Flat};
+use crate::chains;
 use crate::search;
 use crate::walk;
 
@@ -77,26 +78,6 @@ pub fn deepen(dist: &mut [i64; 128], label: &[usize; 128], cells: usize, to: usi
     }
 }
 
-// Puts candidate t at the head of the chain of its end.
-pub fn link(
-    cells: usize,
-    t: usize,
-    ends: &[usize; 256],
-    head: &mut [usize; 128],
-    next: &mut [usize; 256],
-)
-    requires { ⌜ (cells ≤ 127) × (t < 256) × (at (now ends) t ≤ cells) ⌝ }
-    requires { ⌜ Chained cells t (now ends) (now head) (now next) ⌝ }
-    ensures { λ r. ⌜ Chained cells (suc t) (now (ends .entry)) (now (head .exit)) (now (next .exit)) ⌝ }
-{
-    // the whole arrays, so that their lengths are known
-    let heads = &head[..];
-    let nexts = &next[..];
-    let v = ends[t];
-    next[t] = head[v];
-    head[v] = t + 1;
-}
-
 // Inserts candidate t. The last five arrays are for its search: what they held before plays no part.
 pub fn insert(
     cells: usize,
@@ -107,31 +88,32 @@ pub fn insert(
     kept: &mut [bool; 256],
     room: &mut [usize; 128],
     dist: &mut [i64; 128],
-    head_lo: &[usize; 128],
-    next_lo: &[usize; 256],
-    head_hi: &[usize; 128],
-    next_hi: &[usize; 256],
+    head_lo: &mut [usize; 128],
+    next_lo: &mut [usize; 256],
+    head_hi: &mut [usize; 128],
+    next_hi: &mut [usize; 256],
     label: &mut [usize; 128],
     rank: &mut [usize; 128],
     by: &mut [usize; 128],
     from: &mut [usize; 128],
     list: &mut [usize; 128],
 )
-    requires { ⌜ CanInsert cells t (now lo) (now hi) (now cost) (now kept) (now room) (now dist) (now «head_lo») (now «next_lo») (now «head_hi») (now «next_hi») ⌝ }
-    ensures { λ r. ⌜ ((w : CanInsert cells t (now (lo .entry)) (now (hi .entry)) (now (cost .entry)) (now (kept .entry)) (now (room .entry)) (now (dist .entry)) (now («head_lo» .entry)) (now («next_lo» .entry)) (now («head_hi» .entry)) (now («next_hi» .entry))) → Standing (w .limit) (w .count) cells (suc t) (now (lo .entry)) (now (hi .entry)) (now (cost .entry)) (now (kept .exit)) (now (room .exit)) (now (dist .exit))) ⌝ }
+    requires { ⌜ CanInsert cells t (now lo) (now hi) (now cost) (now kept) (now room) (now dist) (links (now «head_lo») (now «next_lo») (now «head_hi») (now «next_hi»)) ⌝ }
+    ensures { λ r. ⌜ ((w : CanInsert cells t (now (lo .entry)) (now (hi .entry)) (now (cost .entry)) (now (kept .entry)) (now (room .entry)) (now (dist .entry)) (links (now («head_lo» .entry)) (now («next_lo» .entry)) (now («head_hi» .entry)) (now («next_hi» .entry)))) → Standing (w .limit) (w .count) cells (suc t) (now (lo .entry)) (now (hi .entry)) (now (cost .entry)) (now (kept .exit)) (now (room .exit)) (now (dist .exit))) ⌝ }
+    ensures { λ r. ⌜ Chains cells (suc t) (at (now (lo .entry))) (at (now (hi .entry))) (now (kept .exit)) (links (now («head_lo» .exit)) (now («next_lo» .exit)) (now («head_hi» .exit)) (now («next_hi» .exit))) ⌝ }
 {
     // the whole array, so that its length is known
     let flags = &kept[..];
     let a = lo[t];
     let b = hi[t];
-    if room_between(room, a, b) {
-        take_room(room, a, b);
-        kept[t] = true;
-        return;
-    }
     let gain = gain_of(cost[t], dist[a], dist[b]);
     if gain == 0 {
-        kept[t] = false;
+        chains::enter(cells, t, lo, kept, head_lo, next_lo, false);
+        return;
+    }
+    if room_between(room, a, b) {
+        take_room(room, a, b);
+        chains::enter(cells, t, hi, kept, head_hi, next_hi, true);
         return;
     }
     if search::search(
@@ -158,10 +140,22 @@ pub fn insert(
     ) {
         let near = label[a];
         deepen(dist, label, cells, near);
-        kept[t] = true;
-        walk::walk_back(kept, room, rank, by, from, a, b);
+        chains::enter(cells, t, hi, kept, head_hi, next_hi, true);
+        walk::walk_back(
+            kept,
+            room,
+            head_lo,
+            next_lo,
+            head_hi,
+            next_hi,
+            rank,
+            by,
+            from,
+            a,
+            b,
+        );
         return;
     }
     deepen(dist, label, cells, gain);
-    kept[t] = false;
+    chains::enter(cells, t, lo, kept, head_lo, next_lo, false);
 }

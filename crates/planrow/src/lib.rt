@@ -1,6 +1,7 @@
 // The best set on a row of cells, with its prices: candidates are inserted one at a time into a flow with signed costs. A candidate costs
 // minus its profit, an idle cell 0; a node's distance is never above 0, and no arc of the residual network can lower one any more.
 mod arcs;
+mod chains;
 mod insert;
 mod search;
 mod walk;
@@ -45,18 +46,16 @@ pub fn plan_row(
             kept,
             room,
             dist,
-            &head_lo,
-            &next_lo,
-            &head_hi,
-            &next_hi,
+            &mut head_lo,
+            &mut next_lo,
+            &mut head_hi,
+            &mut next_hi,
             &mut label,
             &mut rank,
             &mut by,
             &mut from,
             &mut list,
         );
-        insert::link(cells, t, lo, &mut head_lo, &mut next_lo);
-        insert::link(cells, t, hi, &mut head_hi, &mut next_hi);
         t += 1;
     }
 }

@@ -1,6 +1,6 @@
 // The search from node b for node a, nearest node first.
 ghost use Prim.Native.Nat.{_≤_, _<_};
-ghost use Rattle.planrow.specs.State.{at, groundIn, Ready, Chained, CanChoose, Chosen, Searched, Fresh, marks, Spreads, Nothing, AllDone};
+ghost use Rattle.planrow.specs.State.{at, groundIn, Ready, links, Chains, CanChoose, Chosen, Searched, Fresh, marks, Spreads, Nothing, AllDone};
 use crate::arcs;
 
 // Where on the list a node with the least label is: looked for from the end, and no further than a label that is as low as any can be.
@@ -66,8 +66,7 @@ pub fn spread(
 ) -> usize
     requires { ⌜ Ready cells t (now lo) (now hi) (now cost) (now kept) (now room) (now dist) ⌝ }
     requires { ⌜ (u ≤ cells) × (at (now label) u ≤ 1000000) ⌝ }
-    requires { ⌜ Chained cells t (now lo) (now «head_lo») (now «next_lo») ⌝ }
-    requires { ⌜ Chained cells t (now hi) (now «head_hi») (now «next_hi») ⌝ }
+    requires { ⌜ Chains cells t (at (now lo)) (at (now hi)) (now kept) (links (now «head_lo») (now «next_lo») (now «head_hi») (now «next_hi»)) ⌝ }
     ensures { λ r. ⌜ Spreads (groundIn cells t (now (lo .entry)) (now (hi .entry)) (now (cost .entry)) (now (kept .entry)) (now (room .entry)) (now (dist .entry))) most Nothing AllDone u (marks (now (label .entry)) (now (by .entry)) (now (from .entry)) (now (list .entry)) size) (marks (now (label .exit)) (now (by .exit)) (now (from .exit)) (now (list .exit)) r) ⌝ }
 {
     let risen = arcs::rise(
@@ -169,8 +168,7 @@ pub fn search(
     list: &mut [usize; 128],
 ) -> bool
     requires { ⌜ Ready cells t (now lo) (now hi) (now cost) (now kept) (now room) (now dist) ⌝ }
-    requires { ⌜ Chained cells t (now lo) (now «head_lo») (now «next_lo») ⌝ }
-    requires { ⌜ Chained cells t (now hi) (now «head_hi») (now «next_hi») ⌝ }
+    requires { ⌜ Chains cells t (at (now lo)) (at (now hi)) (now kept) (links (now «head_lo») (now «next_lo») (now «head_hi») (now «next_hi»)) ⌝ }
     requires { ⌜ (a ≤ cells) × (b ≤ cells) × (0 < most) × (most ≤ 1000000) ⌝ }
     ensures { λ r. ⌜ Searched (groundIn cells t (now (lo .entry)) (now (hi .entry)) (now (cost .entry)) (now (kept .entry)) (now (room .entry)) (now (dist .entry))) a b most (now (label .exit)) (now (rank .exit)) (now (by .exit)) (now (from .exit)) r ⌝ }
 {

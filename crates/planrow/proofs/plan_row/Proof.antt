@@ -1,17 +1,16 @@
 -- `plan_row` meets its contract. The loop's invariant: after t turns the row stands with its first t candidates, at the limits that `room` held
--- on entry, and both chains hold just those. The measure is how many candidates are left. Assumes nothing.
+-- on entry, and the chains hold just those, by their flags. The measure is how many candidates are left. Assumes nothing.
 use Prim.Native.Nat.{_-_}
 use native.Mathlib.Numerals.{add-one}
 use native.Mathlib.Omega.{arith}
-use Rattle.planrow.specs.State.{at, CanInsert}
-use Rattle.planrow.specs.Inserting.{first-in, inside}
+use Rattle.planrow.specs.State.{at, links, CanInsert}
 use Rattle.planrow.specs.Planning.{Planning, planning-starts, insertable, planning-goes-on, planned}
 use Rattle.planrow.proofs.plan_row.Statement.{statement}
 use Rattle.planrow.proofs.plan_row.Tie as tie
 
 abbrev Inv-loop : tie.InvT-loop
 Inv-loop cells count lo hi cost kept₀ room₀ dist₀ head-lo₀ next-lo₀ head-hi₀ next-hi₀ label₀ rank₀ by₀ from₀ list₀ t₀ kept room dist head-lo next-lo head-hi next-hi label rank by from list t =
-    Planning (at room₀) count cells t lo hi cost kept room dist head-lo next-lo head-hi next-hi
+    Planning (at room₀) count cells t lo hi cost kept room dist (links head-lo next-lo head-hi next-hi)
 
 abbrev μ-loop : tie.MeasureT-loop
 μ-loop cells count lo hi cost kept₀ room₀ dist₀ head-lo₀ next-lo₀ head-hi₀ next-hi₀ label₀ rank₀ by₀ from₀ list₀ t₀ kept room dist head-lo next-lo head-hi next-hi label rank by from list t =
@@ -31,32 +30,22 @@ entry k = k .before .before .before .before
 
 -- the turn's candidate can be inserted
 can-insert : (k : tie.In-loop Inv-loop μ-loop) → let a = entry k .args in let l = k .before .loop in
-    CanInsert (a .cells) (l .t) (a .lo .now) (a .hi .now) (a .cost .now) (l .kept) (l .room) (l .dist) (l .head-lo) (l .next-lo) (l .head-hi) (l .next-hi)
+    CanInsert (a .cells) (l .t) (a .lo .now) (a .hi .now) (a .cost .now) (l .kept) (l .room) (l .dist) (links (l .head-lo) (l .next-lo) (l .head-hi) (l .next-hi))
 can-insert k = insertable (entry k .pre) (k .before .loop .inv) (k .loop-test .taken)
 
 insert-requires : tie.Need-insert-requires Inv-loop μ-loop
 insert-requires c κs = can-insert (c .before .before .before .before .before .before .before .before .before .before .before .before)
 
-link-requires : tie.Need-link-requires Inv-loop μ-loop
-link-requires c κs = let w = can-insert (c .before .before .before .before .before .before .before .before .before .before .before .before .before .before .before) in ((w .cells-upto, w .t-upto, first-in w), w .by-lo)
-
-link-requires-2 : tie.Need-link-requires-2 Inv-loop μ-loop
-link-requires-2 c κs =
-    let w = can-insert (c .before .before .before .before .before .before .before .before .before .before .before .before .before .before .before .before .before .before) in ((w .cells-upto, w .t-upto, inside w), w .by-hi)
-
 add-t : tie.Need-add-t Inv-loop μ-loop
-add-t c = omega (arith, can-insert (c .before .before .before .before .before .before .before .before .before .before .before .before .before .before .before .before .before .before .before) .t-upto)
+add-t c = omega (arith, can-insert (c .before .before .before .before .before .before .before .before .before .before .before .before .before) .t-upto)
 
 loop-less : tie.Need-loop-less Inv-loop μ-loop
-loop-less c = omega (arith, c .before .before .before .before .before .before .before .before .before .before .before .before .before .before .before .before .before .before .before .loop-test .taken)
+loop-less c = omega (arith, c .before .before .before .before .before .before .before .before .before .before .before .before .before .loop-test .taken)
 
 loop-again : tie.Need-loop-again Inv-loop μ-loop
 loop-again c =
-    let k = c .before .before .before .before .before .before .before .before .before .before .before .before .before .before .before .before .before .before .before in
-    rw add-one (
-    planning-goes-on (entry k .pre) (k .before .loop .inv) (k .loop-test .taken)
-    (c .before .before .before .before .before .before .insert .ensures) (c .before .before .before .link .ensures) (c .link2 .ensures)
-    )
+    let k = c .before .before .before .before .before .before .before .before .before .before .before .before .before in
+    rw add-one (planning-goes-on (entry k .pre) (k .before .loop .inv) (k .loop-test .taken) (c .insert .ensures .0) (c .insert .ensures .1))
 
 returns : tie.Need-returns Inv-loop μ-loop
 returns c = planned (c .before .loop .inv) (c .loop-test .left)
@@ -70,8 +59,6 @@ plan-row-spec =
     level-requires
     loop-holds
     insert-requires
-    link-requires
-    link-requires-2
     add-t
     loop-less
     loop-again

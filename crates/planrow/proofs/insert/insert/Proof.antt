@@ -7,7 +7,8 @@ use borrow.Author.Needs.{needs}
 use lib.ListN.{length}
 use Rattle.signed.specs.Bits.{known}
 use Rattle.planrow.specs.State.{at}
-use Rattle.planrow.specs.Inserting.{gainIn, first-in, inside, ready, gains-read, gain-read, gain-upto, kept-at-once, dropped-unasked, dropped-after, walkable, kept-by-walk}
+use Rattle.planrow.specs.Flags.{entered-kept, entered-dropped}
+use Rattle.planrow.specs.Inserting.{gainIn, first-in, inside, ready, gains-read, gain-read, gain-upto, kept-at-once, dropped-unasked, dropped-after, walkable, kept-by-walk, chains-walked}
 use Rattle.planrow.proofs.insert.insert.Statement.{statement}
 use Rattle.planrow.proofs.insert.insert.Tie as tie
 
@@ -15,10 +16,10 @@ use Rattle.planrow.proofs.insert.insert.Tie as tie
 
 -- from the search to the gain, from the gain to the slice, and to the entry
 abbrev gained : tie.After-search → tie.After-gain-of
-gained f = f .before .before .before .before .before .before .before .before .before .before
+gained f = f .before .before .before .before .before .before .before .before .before .before .before .before .before .before .before .before .before
 
 abbrev sliced : tie.After-gain-of → tie.After-flags2
-sliced g = g .before .before .before .before .before .before .before .before .before
+sliced g = g .before .before .before .before .before .before
 
 abbrev entry : tie.After-gain-of → tie.Start
 entry g = sliced g .before .before
@@ -44,49 +45,65 @@ gain-small : (g : tie.After-gain-of) → g .gain-of .result ≤ 1000000
 gain-small g = omega (arith, gain-is g, gain-upto (entry g .pre))
 
 gain-some : (f : tie.After-search) → gained f .gain-of .result ≡ 0 → ⊥
-gain-some f = f .before .before .before .before .before .before .before .before .before .if2 .left
+gain-some f = f .before .before .before .before .before .before .before .before .before .before .before .before .before .before .before .before .if1 .left
 
--- ---- every cell has room: kept at once
-
-room-between-requires : tie.Need-room-between-requires
-room-between-requires c κs = omega (arith, last-node (c .before .before .before .before .before))
-
-take-room-requires : tie.Need-take-room-requires
-take-room-requires c κs = (omega (arith, last-node (c .before .before .before .before .before .before .before .before)), c .before .before .room-between .ensures (c .before .if1 .taken))
-
-returns : tie.Need-returns
-returns c w =
-    kept-at-once w (long (c .before .before .before .before .before .before .before)) (c .before .before .before .room-between .ensures (c .before .before .if1 .taken))
-    (c .take-room .ensures)
+-- it has its place among the flags
+in-flags : (s : tie.After-flags2) → let a = s .before .before .args in a .t < length (a .kept .now)
+in-flags s = omega (arith, long s, s .before .before .pre .t-upto)
 
 -- ---- it gains nothing: dropped
 
 mul-gain-of-2 : tie.Need-mul-gain-of-2
-mul-gain-of-2 c = omega (arith, first-node (c .before .before .before .before .before .before .before .before))
+mul-gain-of-2 c = omega (arith, first-node (c .before .before .before .before .before))
 
 element-copy-out-gain-of-2 : tie.Need-element-copy-out-gain-of-2
-element-copy-out-gain-of-2 c = first-node (c .before .before .before .before .before .before .before .before)
+element-copy-out-gain-of-2 c = first-node (c .before .before .before .before .before)
 
 mul-gain-of-3 : tie.Need-mul-gain-of-3
-mul-gain-of-3 c = omega (arith, last-node (c .before .before .before .before .before .before .before .before .before))
+mul-gain-of-3 c = omega (arith, last-node (c .before .before .before .before .before .before))
 
 element-copy-out-gain-of-3 : tie.Need-element-copy-out-gain-of-3
-element-copy-out-gain-of-3 c = last-node (c .before .before .before .before .before .before .before .before .before)
+element-copy-out-gain-of-3 c = last-node (c .before .before .before .before .before .before)
 
 gain-of-requires : tie.Need-gain-of-requires
 gain-of-requires c κs =
-    gains-read (c .before .before .before .before .before .before .before .before .before .before .pre)
+    gains-read (c .before .before .before .before .before .before .before .pre)
     (known _ (c .before .before .gain-of-arg .given)) (known _ (c .before .gain-of-arg2 .given)) (known _ (c .gain-of-arg3 .given))
 
+enter-requires : tie.Need-enter-requires
+enter-requires c κs = let p = entry (c .before .before .before .before) .pre in ((p .cells-upto, p .t-upto, first-in p), p .chains .dropped)
+
+returns : tie.Need-returns
+returns c =
+    let i = c .before .before .before .before in let g = i .before in let e = c .enter .ensures in (
+      λ w. rw (e .0) (dropped-unasked w (long (sliced g)) (omega (arith, gain-is g, i .if1 .taken))),
+      entered-dropped (in-flags (sliced g)) (entry g .pre .chains) (e .0) (e .1),
+    )
+
+-- ---- every cell has room: kept at once
+
+room-between-requires : tie.Need-room-between-requires
+room-between-requires c κs = omega (arith, last-node (entry (c .before .before)))
+
+take-room-requires : tie.Need-take-room-requires
+take-room-requires c κs = (omega (arith, last-node (entry (c .before .before .before .before .before))), c .before .before .room-between .ensures (c .before .if2 .taken))
+
+enter-requires-2 : tie.Need-enter-requires-2
+enter-requires-2 c κs = let p = entry (c .before .before .before .before .before .before .before .before .before) .pre in ((p .cells-upto, p .t-upto, inside p), p .chains .held)
+
 returns-2 : tie.Need-returns-2
-returns-2 c w = dropped-unasked w (long (sliced (c .before))) (omega (arith, gain-is (c .before)))
+returns-2 c =
+    let k = c .before .before .before .before in let g = k .before .before .before .before .before .before in let e = c .enter2 .ensures in (
+      λ w. rw (e .0) (kept-at-once w (long (sliced g)) (k .before .before .before .room-between .ensures (k .before .before .if2 .taken)) (k .take-room .ensures)),
+      entered-kept (in-flags (sliced g)) (entry g .pre .chains) (e .0) (e .1),
+    )
 
 -- ---- a way back is found: kept, and the way is walked
 
 search-requires : tie.Need-search-requires
 search-requires c κs =
-    let i = c .before .before .before .before .before .before .before .before in let g = i .before in let p = entry g .pre in
-    (ready p, (p .by-lo, (p .by-hi, (first-in p, inside p, omega (arith, i .if2 .left), gain-small g))))
+    let i = c .before .before .before .before .before .before .before .before .before .before .before .before .before .before .before in let g = i .before in let p = entry g .pre in
+    (ready p, (p .chains, (first-in p, inside p, omega (arith, i .if1 .left), gain-small g)))
 
 mul-near : tie.Need-mul-near
 mul-near c = omega (arith, first-node (entry (gained (c .before))))
@@ -99,32 +116,41 @@ deepen-requires c κs =
     let f = c .before .before .before .before in let p = entry (gained f) .pre in
     ((p .cells-upto, omega (arith, f .search .ensures .reached (c .before .before .before .if3 .taken) .shorter, gain-small (gained f))), ready p .dists)
 
-element-write-kept-3 : tie.Need-element-write-kept-3
-element-write-kept-3 c = entry (gained (c .before .before .before .before .before)) .pre .t-upto
+-- from the walk's entry to the search
+abbrev searched : tie.After-deepen → tie.After-search
+searched d = d .before .before .before .before .before
+
+enter-requires-3 : tie.Need-enter-requires-3
+enter-requires-3 c κs = let p = entry (gained (searched (c .before .before .before))) .pre in ((p .cells-upto, p .t-upto, inside p), p .chains .held)
 
 walk-back-requires : tie.Need-walk-back-requires
 walk-back-requires c κs =
-    let i = c .before .before .before .before .before .before .before .before .before in let f = i .before in let g = gained f in
-    walkable (entry g .pre) (long (sliced g)) (gain-is g) (gain-some f) (f .search .ensures) (i .if3 .taken)
+    let n = c .before .before .before .before .before .before .before .before .before in let d = n .before .before .before .before in let f = searched d in let g = gained f in let e = n .enter3 .ensures in
+    walkable (entry g .pre) (long (sliced g)) (gain-is g) (gain-some f) (f .search .ensures) (d .before .before .before .before .if3 .taken) (e .0)
+    (entered-kept (in-flags (sliced g)) (entry g .pre .chains) (e .0) (e .1))
 
 returns-3 : tie.Need-returns-3
-returns-3 c w =
-    let i = c .before .before .before .before .before .before .before .before .before .before in let f = i .before in let g = gained f in
-    kept-by-walk w (long (sliced g)) (gain-is g) (gain-some f) (f .search .ensures) (i .if3 .taken)
-    (c .before .before .before .before .before .before .deepen .ensures) (c .walk-back .ensures)
+returns-3 c =
+    let n = c .before .before .before .before .before .before .before .before .before .before in let d = n .before .before .before .before in let f = searched d in let g = gained f in let e = n .enter3 .ensures in
+    let hit = d .before .before .before .before .if3 .taken in let chained = entered-kept (in-flags (sliced g)) (entry g .pre .chains) (e .0) (e .1) in (
+      λ w. kept-by-walk w (long (sliced g)) (gain-is g) (gain-some f) (f .search .ensures) hit (e .0) chained (d .deepen .ensures) (c .walk-back .ensures .0),
+      chains-walked (entry g .pre) (long (sliced g)) (gain-is g) (gain-some f) (f .search .ensures) hit (e .0) chained (c .walk-back .ensures .1),
+    )
 
 -- ---- no way back is short enough: dropped
 
 deepen-requires-2 : tie.Need-deepen-requires-2
 deepen-requires-2 c κs = let g = gained (c .before .before .before) in let p = entry g .pre in ((p .cells-upto, gain-small g), ready p .dists)
 
-element-write-kept-4 : tie.Need-element-write-kept-4
-element-write-kept-4 c = entry (gained (c .before .before .before .before)) .pre .t-upto
+enter-requires-4 : tie.Need-enter-requires-4
+enter-requires-4 c κs = let p = entry (gained (c .before .before .before .before .before .before .before)) .pre in ((p .cells-upto, p .t-upto, first-in p), p .chains .dropped)
 
 returns-4 : tie.Need-returns-4
-returns-4 c w =
-    let f = c .before .before .before .before in let g = gained f in
-    dropped-after w (long (sliced g)) (gain-is g) (gain-some f) (f .search .ensures) (c .before .before .before .if3 .left) (c .deepen2 .ensures)
+returns-4 c =
+    let d = c .before .before .before .before in let f = d .before .before .before .before in let g = gained f in let e = c .enter4 .ensures in (
+      λ w. rw (e .0) (dropped-after w (long (sliced g)) (gain-is g) (gain-some f) (f .search .ensures) (d .before .before .before .if3 .left) (d .deepen2 .ensures)),
+      entered-dropped (in-flags (sliced g)) (entry g .pre .chains) (e .0) (e .1),
+    )
 
 pub insert-spec : {M : Type 1} → statement M
 insert-spec =
@@ -134,10 +160,6 @@ insert-spec =
     (λ c. search needs)
     (λ c. search needs)
     (λ c. search needs)
-    room-between-requires
-    take-room-requires
-    (λ c. search needs)
-    returns
     (λ c. search needs)
     (λ c. search needs)
     mul-gain-of-2
@@ -145,15 +167,19 @@ insert-spec =
     mul-gain-of-3
     element-copy-out-gain-of-3
     gain-of-requires
-    (λ c. search needs)
+    enter-requires
+    returns
+    room-between-requires
+    take-room-requires
+    enter-requires-2
     returns-2
     search-requires
     mul-near
     element-copy-out-near
     deepen-requires
-    element-write-kept-3
+    enter-requires-3
     walk-back-requires
     returns-3
     deepen-requires-2
-    element-write-kept-4
+    enter-requires-4
     returns-4)

@@ -18,7 +18,7 @@ abbrev μ-loop : tie.MeasureT-loop
 start-requires : tie.Need-start-requires Inv-loop μ-loop
 start-requires c κs =
     let p = c .before .before .pre in
-    (p .0 .cells-upto, p .1 .1 .1 .1)
+    (p .0 .cells-upto, p .1 .1 .1)
 
 -- from the slices to the entry
 abbrev entry : tie.After-places2 Inv-loop μ-loop → tie.Start Inv-loop μ-loop
@@ -27,13 +27,13 @@ entry c = c .before .before .before .before .before .before .before
 loop-holds : tie.Need-loop-holds Inv-loop μ-loop
 loop-holds c =
     let p = entry c .pre in
-    let q = p .1 .1 .1 in
+    let q = p .1 .1 in
     look (entry c .args .list .now) (p .0 .cells-upto) (q .0) (q .1) (q .2) (omega arith) (omega arith) (c .before .before .before .before .start .ensures)
 
 returns : tie.Need-returns Inv-loop μ-loop
 returns c =
     let p = entry (c .before .before) .pre in
-    look-lost (c .before .loop .inv) (p .0 .deep) (p .0 .proper) (p .1 .1 .1 .0) (c .if1 .taken)
+    look-lost (c .before .loop .inv) (p .0 .deep) (p .0 .proper) (p .1 .1 .0) (c .if1 .taken)
 
 nearest-requires : tie.Need-nearest-requires Inv-loop μ-loop
 nearest-requires c κs = look-can (c .before .before .before .loop .inv) (c .before .before .if1 .left)
@@ -85,7 +85,7 @@ spread-requires c κs =
     let e = c .before .before .before .before .before .before .before in
     let l = turn e in
     let p = entry (l .before) .pre in
-    (p .0, ((look-node (l .loop .inv) (e .nearest .ensures), omega (arith, look-near (l .loop .inv) (e .nearest .ensures), p .1 .1 .1)), (p .1 .0, p .1 .1 .0)))
+    (p .0, ((look-node (l .loop .inv) (e .nearest .ensures), omega (arith, look-near (l .loop .inv) (e .nearest .ensures), p .1 .1)), p .1 .0))
 
 mul-floor : tie.Need-mul-floor Inv-loop μ-loop
 mul-floor c = omega (arith, node-in (c .before .before .before .before .before .before .before .before))

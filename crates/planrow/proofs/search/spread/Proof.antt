@@ -18,12 +18,12 @@ fall-requires c κs =
 spread-dropped-requires : tie.Need-spread-dropped-requires
 spread-dropped-requires c κs =
     let p = c .before .before .before .before .before .before .before .before .before .before .before .before .before .before .pre in
-    (p .0, ((p .1 .0 .0, omega arith), p .1 .1 .0))
+    (p .0, ((p .1 .0 .0, omega arith), p .1 .1 .dropped))
 
 spread-kept-requires : tie.Need-spread-kept-requires
 spread-kept-requires c κs =
     let p = c .before .before .before .before .before .before .before .before .before .before .before .before .before .before .before .before .before .before .before .pre in
-    (p .0, ((p .1 .0 .0, omega arith), p .1 .1 .1))
+    (p .0, ((p .1 .0 .0, omega arith), p .1 .1 .held))
 
 returns : tie.Need-returns
 returns c =

@@ -1,5 +1,4 @@
 -- Each way out is one lemma of `WalkBack`; the stores are safe by what `CanFlip` says of the arc. Assumes nothing.
-use borrow.Author.Needs.{needs}
 use native.Mathlib.Omega.{arith}
 use Rattle.planrow.specs.WalkBack.{flipped-up, flipped-down, flipped-turn}
 use Rattle.planrow.proofs.walk.flip.Statement.{statement}
@@ -18,7 +17,7 @@ element-write-room : tie.Need-element-write-room
 element-write-room c = c .before .before .pre .up-cell (c .before .if1 .taken)
 
 returns : tie.Need-returns
-returns c = flipped-up _ _ _ _ _ (c .before .if1 .taken)
+returns c = flipped-up _ _ _ _ _ _ (c .before .if1 .taken)
 
 mul-room-2 : tie.Need-mul-room-2
 mul-room-2 c = omega (arith, c .before .before .pre .down-cell (c .if2 .taken))
@@ -33,10 +32,18 @@ element-write-room-2 : tie.Need-element-write-room-2
 element-write-room-2 c = c .before .before .before .pre .down-cell (c .before .if2 .taken)
 
 returns-2 : tie.Need-returns-2
-returns-2 c = flipped-down _ _ _ _ _ (c .before .if2 .taken)
+returns-2 c = flipped-down _ _ _ _ _ _ (c .before .if2 .taken)
+
+turn-requires : tie.Need-turn-requires
+turn-requires c κs =
+    let i = c .before .before .before .before .before in
+    let p = i .before .before .pre in
+    p .turn (omega (arith, p .arc, i .if2 .left, i .before .if1 .left))
 
 returns-3 : tie.Need-returns-3
-returns-3 c = flipped-turn _ _ _ _ _ (c .before .before .if1 .left) (c .before .if2 .left)
+returns-3 c =
+    let i = c .before .before .before .before .before .before in
+    flipped-turn _ _ _ _ _ _ (i .before .if1 .left) (i .if2 .left) (c .turn .ensures)
 
 pub flip-spec : {M : Type 1} → statement M
 flip-spec =
@@ -52,6 +59,5 @@ flip-spec =
     sub-room
     element-write-room-2
     returns-2
-    (λ c. search needs)
-    (λ c. search needs)
+    turn-requires
     returns-3)
