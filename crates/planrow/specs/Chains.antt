@@ -11,7 +11,7 @@ use Rattle.signed.specs.Bits.{rd, back, within}
 use Rattle.signed.specs.Parts.{up, dn, Neg, neg}
 use Rattle.flow.specs.Searching.{Ground, Spread}
 use Rattle.flow.specs.SearchSteps.{spread-relaxed, along-arc, back-arc, chain-step-along, chain-step-back, chain-skip-along, chain-skip-back}
-use Rattle.planrow.specs.State.{at, flag, depth, groundIn, Ready, Latest, Chained, Marks, Lacks, Tried, Spreads}
+use Rattle.planrow.specs.State.{at, flag, depth, groundIn, Ready, LatestBelow, Chained, Marks, Lacks, Tried, Spreads}
 use Rattle.planrow.specs.Relaxed.{cost-back, passing, relaxing}
 use Rattle.planrow.specs.Stages.{spreads-on}
 
@@ -64,7 +64,7 @@ module _
       own : In e × (ends e ≡ u)
       own = f .here e q
 
-      after : Latest (λ i. In i × (ends i ≡ ends e)) e (at next e)
+      after : LatestBelow (λ i. In i × (ends i ≡ ends e)) e (at next e)
       after = chain .nexts e (own .0)
 
 -- ---- one link: the arc out of u along dropped candidate e, or back along kept candidate e

@@ -10,9 +10,9 @@ use lib.ListN.{length, set}
 use lib.Seq.{getD-set-same, getD-set-other}
 use Rattle.sums.specs.Each.{of-yes, same-or-not}
 use Rattle.row.specs.Row.{Row}
-use Rattle.planrow.specs.State.{flag, Flagged, Chained, Links, links, Chains, CanTurn, Turned}
+use Rattle.planrow.specs.State.{flag, Flagged, Chained, Links, links, Chains, CanTurn, TurnedRound}
 use Rattle.planrow.specs.Joining.{Joins, Moves, CanPutIn, CanTakeOut, Moved}
-use Rattle.planrow.specs.Latest.{chained-same}
+use Rattle.planrow.specs.LatestBelow.{chained-same}
 
 -- ---- flags
 
@@ -138,9 +138,9 @@ module _ {row : Row} {t e u v : ℕ} {kept : List Bool} {ls : Links} (w : CanTur
 
 module _ {kept : List Bool} {ls ls′ : Links} {e u v : ℕ} (long : length kept ≡ 256) where
   pub turned-dropped : flag kept e ≡ true → ((w : CanTakeOut (ls .headHi) (ls .nextHi) u e) → Moved (w .0) (ls′ .headHi) (ls′ .nextHi)) →
-      ((w : CanPutIn (ls .headLo) (ls .nextLo) v e) → Moved (w .0) (ls′ .headLo) (ls′ .nextLo)) → Turned kept ls (set kept e false) ls′ e u v
+      ((w : CanPutIn (ls .headLo) (ls .nextLo) v e) → Moved (w .0) (ls′ .headLo) (ls′ .nextLo)) → TurnedRound kept ls (set kept e false) ls′ e u v
   turned-dropped was out into = record { flags = ap (set kept e) (ap not (sym was)); chains = λ row t w. record { dropped = into (drop-in w long was); held = out (drop-out w long was) } }
 
   pub turned-kept : flag kept e ≡ false → ((w : CanTakeOut (ls .headLo) (ls .nextLo) u e) → Moved (w .0) (ls′ .headLo) (ls′ .nextLo)) →
-      ((w : CanPutIn (ls .headHi) (ls .nextHi) v e) → Moved (w .0) (ls′ .headHi) (ls′ .nextHi)) → Turned kept ls (set kept e true) ls′ e u v
+      ((w : CanPutIn (ls .headHi) (ls .nextHi) v e) → Moved (w .0) (ls′ .headHi) (ls′ .nextHi)) → TurnedRound kept ls (set kept e true) ls′ e u v
   turned-kept was out into = record { flags = ap (set kept e) (ap not (sym was)); chains = λ row t w. record { dropped = out (keep-out w long was); held = into (keep-in w long was) } }

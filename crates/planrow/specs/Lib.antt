@@ -11,7 +11,7 @@ pub mod SearchLoop
 pub mod Rooms
 pub mod Depths
 pub mod Joining
-pub mod Latest
+pub mod LatestBelow
 pub mod Link
 pub mod Moves
 pub mod Flags

@@ -55,7 +55,7 @@ abbrev pub Flagged : Bool → ℕ → List Bool → ℕ → Type 0
 Flagged side t kept i = (i < t) × (flag kept i ≡ side)
 
 -- p is 1 past the latest number below `bound` that is one of these, and 0 where none is
-pub record Latest (One : ℕ → Type 0) (bound p : ℕ) : Type 0 where
+pub record LatestBelow (One : ℕ → Type 0) (bound p : ℕ) : Type 0 where
   pub upto : p ≤ bound
   pub one : (i : ℕ) → p ≡ suc i → One i
   pub last : (i : ℕ) → i < bound → One i → i < p
@@ -64,8 +64,8 @@ pub record Latest (One : ℕ → Type 0) (bound p : ℕ) : Type 0 where
 -- with the same end; 0 is none.
 pub record Chained (cells : ℕ) (In : ℕ → Type 0) (ends : ℕ → ℕ) (head next : List ℕ) : Type 0 where
   pub few : (i : ℕ) → In i → i < 256
-  pub heads : (v : ℕ) → v ≤ cells → Latest (λ i. In i × (ends i ≡ v)) 256 (at head v)
-  pub nexts : (j : ℕ) → In j → Latest (λ i. In i × (ends i ≡ ends j)) j (at next j)
+  pub heads : (v : ℕ) → v ≤ cells → LatestBelow (λ i. In i × (ends i ≡ v)) 256 (at head v)
+  pub nexts : (j : ℕ) → In j → LatestBelow (λ i. In i × (ends i ≡ ends j)) j (at next j)
 
 -- the arrays of the chains by first node, and of those by last
 pub record Links : Type 0 where
@@ -221,7 +221,7 @@ pub record CanFlip (kept : List Bool) (room : List ℕ) (ls : Links) (e u v : �
   pub turn : e < 256 → (row : Row) × (t : ℕ) × CanTurn row t kept ls e u v
 
 -- candidate e is turned round, and goes from one chain to the other
-pub record Turned (kept : List Bool) (ls : Links) (kept′ : List Bool) (ls′ : Links) (e u v : ℕ) : Type 0 where
+pub record TurnedRound (kept : List Bool) (ls : Links) (kept′ : List Bool) (ls′ : Links) (e u v : ℕ) : Type 0 where
   pub flags : kept′ ≡ set kept e (not (flag kept e))
   pub chains : (row : Row) (t : ℕ) → CanTurn row t kept ls e u v → Chains (row .cells) t (row .lo) (row .hi) kept′ ls′
 
@@ -233,7 +233,7 @@ pub record Flipped (kept : List Bool) (room : List ℕ) (ls : Links) (kept′ : 
   pub down-room : e ≡ 257 → room′ ≡ set room v (at room v - 1)
   pub down-links : e ≡ 257 → ls′ ≡ ls
   pub turn-room : e < 256 → room′ ≡ room
-  pub turned : e < 256 → Turned kept ls kept′ ls′ e u v
+  pub turned : e < 256 → TurnedRound kept ls kept′ ls′ e u v
 
 -- the numbers that a candidate's gain is made of
 pub record Gains (cost near far : ℤ) : Type 0 where

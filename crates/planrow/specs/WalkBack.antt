@@ -12,7 +12,7 @@ use Rattle.sums.specs.Each.{decided}
 use Rattle.flow.specs.Balanced.{Balanced}
 use Rattle.flow.specs.Walking.{Walking}
 use Rattle.flow.specs.WalkSteps.{which-arc, walk-in, along-ends, back-ends, up-cell, down-room, step-up, step-down, step-keep, step-drop, walk-falls, walk-end}
-use Rattle.planrow.specs.State.{at, flag, Links, Chains, CanWalk, CanTurn, CanFlip, Turned, Flipped}
+use Rattle.planrow.specs.State.{at, flag, Links, Chains, CanWalk, CanTurn, CanFlip, TurnedRound, Flipped}
 use Rattle.planrow.specs.Rooms.{at-most-one}
 
 -- ---- the ways through flip
@@ -42,7 +42,7 @@ module _ (kept : List Bool) (room : List ℕ) (ls : Links) (e u v : ℕ) where
     turned = λ h. absurd (omega arith);
   }
 
-  pub flipped-turn : {kept′ : List Bool} {ls′ : Links} → (e ≡ 256 → ⊥) → (e ≡ 257 → ⊥) → Turned kept ls kept′ ls′ e u v → Flipped kept room ls kept′ room ls′ e u v
+  pub flipped-turn : {kept′ : List Bool} {ls′ : Links} → (e ≡ 256 → ⊥) → (e ≡ 257 → ⊥) → TurnedRound kept ls kept′ ls′ e u v → Flipped kept room ls kept′ room ls′ e u v
   flipped-turn n m is = record {
     up-kept = λ h. absurd (n h);
     up-room = λ h. absurd (n h);

@@ -1,7 +1,7 @@
 // The walk back from a to b along the arcs of a search, each of which is flipped.
 ghost use Prim.Native.Nat.{ℕ};
 ghost use Rattle.row.specs.Row.{Row};
-ghost use Rattle.planrow.specs.State.{at, flag, links, CanWalk, CanFlip, CanTurn, Flipped, Turned, Chains};
+ghost use Rattle.planrow.specs.State.{at, flag, links, CanWalk, CanFlip, CanTurn, Flipped, TurnedRound, Chains};
 ghost use Rattle.flow.specs.Balanced.{Balanced};
 use crate::chains;
 
@@ -74,7 +74,7 @@ fn turn(
     v: usize,
 )
     requires { ⌜ ((row : Row) × (t : ℕ) × CanTurn row t (now kept) (links (now «head_lo») (now «next_lo») (now «head_hi») (now «next_hi»)) e u v) ⌝ }
-    ensures { λ r. ⌜ Turned (now (kept .entry)) (links (now («head_lo» .entry)) (now («next_lo» .entry)) (now («head_hi» .entry)) (now («next_hi» .entry))) (now (kept .exit)) (links (now («head_lo» .exit)) (now («next_lo» .exit)) (now («head_hi» .exit)) (now («next_hi» .exit))) e u v ⌝ }
+    ensures { λ r. ⌜ TurnedRound (now (kept .entry)) (links (now («head_lo» .entry)) (now («next_lo» .entry)) (now («head_hi» .entry)) (now («next_hi» .entry))) (now (kept .exit)) (links (now («head_lo» .exit)) (now («next_lo» .exit)) (now («head_hi» .exit)) (now («next_hi» .exit))) e u v ⌝ }
 {
     // the whole array, so that its length is known
     let flags = &kept[..];
