@@ -35,8 +35,17 @@ pub fn lift(least: usize, greatest: usize) -> usize {
     (greatest - least) / 16 + 1
 }
 
-// What a request brings above the least for the room that it takes: a longer one is worth less, but a length of 64 counts for every one. (Figures found by
-// trying: docs/BENCH.md.)
+// What a request of this length counts for: nearly 64 parts in 64 + length, of 16384, by a curve that needs no division. From 76 on it falls no more.
+fn weight(length: usize) -> usize
+    ensures { λ r. ⌜ r ≤ 32768 ⌝ }
+{
+    if 76 < length {
+        return 8062;
+    }
+    16384 + 11 * length * length / 8 - 214 * length
+}
+
+// What a request brings above the least for the room that it takes: a longer one is worth less. (Figures found by trying: docs/BENCH.md.)
 fn worth(profit: usize, least: usize, lift: usize, lo: usize, hi: usize) -> usize {
     if 1000000 < profit {
         return 0;
@@ -47,13 +56,10 @@ fn worth(profit: usize, least: usize, lift: usize, lo: usize, hi: usize) -> usiz
     if profit < least {
         return 0;
     }
-    if 1000 < hi {
-        return 0;
-    }
     if hi < lo {
         return 0;
     }
-    (profit - least + lift) * 4096 / (hi - lo + 64)
+    (profit - least + lift) * weight(hi - lo) / 128
 }
 
 // The worth of each request, and the greatest.
