@@ -14,7 +14,7 @@ use lib.Signed.{nonNeg, leZ}
 use mir.Syntax.{w64}
 use mir.Facts.{toZ-pos}
 use mir.Val.{Fits, toZ}
-use Rattle.signed.specs.Bits.{Reads, Within, rd, taken, minus, within, back}
+use Rattle.signed.specs.Bits.{ReadsAs, Within, rd, taken, minus, within, back}
 use Rattle.signed.specs.Parts.{up, dn, Dif, dif, abs, apart, not-below}
 use Rattle.signed.specs.Tests.{leZ-true, leZ-false}
 use Rattle.sums.specs.Each.{same-or-not}
@@ -31,10 +31,10 @@ abbrev made : ℤ → ℤ → ℤ → ℤ
 made cost near far = rd (rd far -ℤ rd near) -ℤ rd cost
 
 module _ {cost near far : ℤ} (g : Gains cost near far) where
-  pub first-part : Reads (rd far -ℤ rd near) (far -ℤ near)
+  pub first-part : ReadsAs (rd far -ℤ rd near) (far -ℤ near)
   first-part = taken {b = 256000000} far near (omega arith) (omega arith) (omega arith)
 
-  pub gain-made : Reads (made cost near far) (gain cost near far)
+  pub gain-made : ReadsAs (made cost near far) (gain cost near far)
   gain-made =
       minus
       (far -ℤ near)
@@ -113,7 +113,7 @@ module _ {v cells to : ℕ} {label : List ℕ} {dist₀ dist : List ℤ} (small 
   old-within : Within 256000000 (getD dist v (pos 0))
   old-within = rw (done .rest v (omega arith)) (omega (arith, below .not-above v (omega arith), below .upto v (omega arith)))
 
-  pub lowered : Reads (rd (getD dist v (pos 0)) -ℤ toZ w64 (to - at label v)) (getD dist v (pos 0) -ℤ pos (to - at label v))
+  pub lowered : ReadsAs (rd (getD dist v (pos 0)) -ℤ toZ w64 (to - at label v)) (getD dist v (pos 0) -ℤ pos (to - at label v))
   lowered =
       minus
       (getD dist v (pos 0))

@@ -42,22 +42,22 @@ rd-bal z f = rw (back f) (omega arith)
 -- ---- what the code makes of values that it read back
 
 -- `made`, which the code computes, is z, and z fits
-pub record Reads (made z : ℤ) : Type 0 where
+pub record ReadsAs (made z : ℤ) : Type 0 where
   pub is : made ≡ z
   pub fits : SFits w64 made
   pub ok : SFits w64 z
   pub again : rd made ≡ z
 
-pub reads : {made z : ℤ} → made ≡ z → SFits w64 z → Reads made z
+pub reads : {made z : ℤ} → made ≡ z → SFits w64 z → ReadsAs made z
 reads e f = record { is = e; fits = subst (SFits w64) (sym e) f; ok = f; again = ap rd e ∙ back f }
 
 -- a sum and a difference of what the code holds: p and q are `rd x` (by `back`), an earlier `rd made` (by `again`), or a local's bits as they stand
-pub plus : {p q : ℤ} (x y : ℤ) → p ≡ x → q ≡ y → SFits w64 (x +ℤ y) → Reads (p +ℤ q) (x +ℤ y)
+pub plus : {p q : ℤ} (x y : ℤ) → p ≡ x → q ≡ y → SFits w64 (x +ℤ y) → ReadsAs (p +ℤ q) (x +ℤ y)
 plus x y e d f = reads (ap₂ _+ℤ_ e d) f
 
-pub minus : {p q : ℤ} (x y : ℤ) → p ≡ x → q ≡ y → SFits w64 (x -ℤ y) → Reads (p -ℤ q) (x -ℤ y)
+pub minus : {p q : ℤ} (x y : ℤ) → p ≡ x → q ≡ y → SFits w64 (x -ℤ y) → ReadsAs (p -ℤ q) (x -ℤ y)
 minus x y e d f = reads (ap₂ _-ℤ_ e d) f
 
 -- the same difference for two values within b
-pub taken : {b : ℕ} (x y : ℤ) → b < 2 ^ 62 → Within b x → Within b y → Reads (rd x -ℤ rd y) (x -ℤ y)
+pub taken : {b : ℕ} (x y : ℤ) → b < 2 ^ 62 → Within b x → Within b y → ReadsAs (rd x -ℤ rd y) (x -ℤ y)
 taken {b} x y l p q = minus x y (back (within x b (omega arith) p)) (back (within y b (omega arith) q)) (within (x -ℤ y) (b + b) (omega arith) (omega (arith, dif x y)))

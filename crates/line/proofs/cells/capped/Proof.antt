@@ -7,14 +7,14 @@ use lib.IntN.{ℤ, pos, _-ℤ_}
 use lib.Signed.{leZ}
 use Rattle.signed.specs.Parts.{up, dn, apart, dif, abs, not-below}
 use Rattle.signed.specs.Tests.{leZ-true, leZ-false}
-use Rattle.signed.specs.Bits.{Reads, rd, taken}
+use Rattle.signed.specs.Bits.{ReadsAs, rd, taken}
 use Rattle.line.proofs.cells.capped.Statement.{statement}
 use Rattle.line.proofs.cells.capped.Tie as tie
 
 abbrev gap : tie.Start → ℤ
 gap s = s .args .near -ℤ s .args .far
 
-fall : (s : tie.Start) → Reads (rd (s .args .near) -ℤ rd (s .args .far)) (gap s)
+fall : (s : tie.Start) → ReadsAs (rd (s .args .near) -ℤ rd (s .args .far)) (gap s)
 fall s = taken {b = 256000000} (s .args .near) (s .args .far) (omega arith) (omega arith) (omega arith)
 
 -- in parts: what it falls by, and never below 0

@@ -8,7 +8,7 @@ use mir.Facts.{toZ-pos}
 use mir.Syntax.{w64}
 use mir.Val.{toZ}
 use Rattle.signed.specs.Parts.{neg}
-use Rattle.signed.specs.Bits.{Reads, minus, within}
+use Rattle.signed.specs.Bits.{ReadsAs, minus, within}
 use Rattle.book.specs.Columns.{at}
 use Rattle.line.specs.Laying.{Laying, laying-none, laying-more}
 use Rattle.line.proofs.cells.lay.Statement.{statement}
@@ -30,7 +30,7 @@ gain c = let l = c .before .before .before .before .before in at (l .before .bef
 gain-upto : (c : tie.After-cost Inv-loop μ-loop) → gain c ≤ 1000000
 gain-upto c = let l = c .before .before .before .before .before in l .before .before .before .before .before .before .before .pre .upto (l .loop .i) (omega arith)
 
-paid : (c : tie.After-cost Inv-loop μ-loop) → Reads (pos 0 -ℤ toZ w64 (gain c)) (pos 0 -ℤ pos (gain c))
+paid : (c : tie.After-cost Inv-loop μ-loop) → ReadsAs (pos 0 -ℤ toZ w64 (gain c)) (pos 0 -ℤ pos (gain c))
 paid c =
     let z = pos 0 -ℤ pos (gain c) in
     minus (pos 0) (pos (gain c)) refl (toZ-pos w64 (omega (arith, gain-upto c))) (within z 1000000 (omega arith) (omega (arith, neg (pos (gain c)), gain-upto c)))

@@ -3,7 +3,7 @@
 use mathlib.Core.Path.{_≡_}
 use native.Mathlib.Omega.{arith}
 use lib.IntN.{ℤ, _+ℤ_, _-ℤ_}
-use Rattle.signed.specs.Bits.{Reads, rd, plus, minus, within, back, reach}
+use Rattle.signed.specs.Bits.{ReadsAs, rd, plus, minus, within, back, reach}
 use Rattle.signed.specs.Parts.{dn, Sum, Dif, sum, dif, abs, apart, not-below}
 use Rattle.planrow.proofs.arcs.length_left.Statement.{statement}
 use Rattle.planrow.proofs.arcs.length_left.Tie as tie
@@ -21,10 +21,10 @@ reach-parts s = sum (s .args .cost) (s .args .near)
 lack-parts : (s : tie.Start) → Dif (reach-of s) (s .args .far) (lack-of s)
 lack-parts s = dif (reach-of s) (s .args .far)
 
-reaches : (s : tie.Start) → Reads (rd (s .args .cost) +ℤ rd (s .args .near)) (reach-of s)
+reaches : (s : tie.Start) → ReadsAs (rd (s .args .cost) +ℤ rd (s .args .near)) (reach-of s)
 reaches s = plus (s .args .cost) (s .args .near) (back (s .fits .cost)) (back (s .fits .near)) (within _ 600000000 (omega arith) (omega (arith, reach-parts s)))
 
-lacks : (s : tie.Start) → Reads (rd (rd (s .args .cost) +ℤ rd (s .args .near)) -ℤ rd (s .args .far)) (lack-of s)
+lacks : (s : tie.Start) → ReadsAs (rd (rd (s .args .cost) +ℤ rd (s .args .near)) -ℤ rd (s .args .far)) (lack-of s)
 lacks s =
     minus (reach-of s) (s .args .far) (reaches s .again) (back (s .fits .far)) (within _ 600000000 (omega arith) (omega (arith, reach-parts s, lack-parts s)))
 

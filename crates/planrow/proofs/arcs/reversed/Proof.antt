@@ -2,12 +2,12 @@
 use mathlib.Core.Path.{refl}
 use native.Mathlib.Omega.{arith}
 use lib.IntN.{pos, _-ℤ_}
-use Rattle.signed.specs.Bits.{Reads, rd, minus, within, back}
+use Rattle.signed.specs.Bits.{ReadsAs, rd, minus, within, back}
 use Rattle.signed.specs.Parts.{neg}
 use Rattle.planrow.proofs.arcs.reversed.Statement.{statement}
 use Rattle.planrow.proofs.arcs.reversed.Tie as tie
 
-turned : (s : tie.Start) → Reads (pos 0 -ℤ rd (s .args .cost)) (pos 0 -ℤ s .args .cost)
+turned : (s : tie.Start) → ReadsAs (pos 0 -ℤ rd (s .args .cost)) (pos 0 -ℤ s .args .cost)
 turned s =
     let z = s .args .cost in
     minus (pos 0) z refl (back (s .fits .cost)) (within (pos 0 -ℤ z) 1000000 (omega arith) (omega (arith, neg z)))
