@@ -37,7 +37,7 @@ int read_book(const uint8_t *p, size_t len, Taken &t)
     for (t.count = 0; (p += 16) != end; t.count++) {
         size_t i = t.count;
         if (255 < i) return 8;
-        if (p[0] != 3 || p[1] != 0 || two(p + 2) != i || !blank(p + 12, 4)) return 9;
+        if (p[0] != 3 || p[1] != 0 || two(p + 2) != i || four(p + 12) != 0) return 9;
         t.a[i] = two(p + 4), t.b[i] = two(p + 6), t.profit[i] = four(p + 8);
         if (t.nodes <= t.a[i] || t.nodes <= t.b[i] || t.a[i] == t.b[i]) return 10;
         if (t.profit[i] == 0 || 1000000 < t.profit[i]) return 11;

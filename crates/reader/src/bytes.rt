@@ -38,6 +38,14 @@ pub fn four(file: &[u8], at: usize) -> usize
     high * 65536 + low
 }
 
+// Whether the four bytes from an offset on are all 0: then, and only then, their number is.
+pub fn four_blank(file: &[u8], at: usize) -> bool
+    requires { ⌜ at + 4 ≤ length (now file) ⌝ }
+    ensures { λ r. ⌜ r ≡ B.blank (now (file .entry)) at 4 ⌝ }
+{
+    four(file, at) == 0
+}
+
 // Whether the n bytes from an offset on are all 0.
 pub fn blank(file: &[u8], at: usize, n: usize) -> bool
     requires { ⌜ at + n ≤ length (now file) ⌝ }

@@ -107,7 +107,7 @@ fn request_at(part: &[u8], i: usize, before: usize, nodes: usize) -> Reading
         b: bytes::two(part, at + 6),
         profit: bytes::four(part, at + 8),
     };
-    let rest = bytes::blank(part, at + 12, 4);
+    let rest = bytes::four_blank(part, at + 12);
     let row = judge::request(i, nodes, head.kind, head.mark, request, rest);
     answer(row, before + i, Record::Request(request))
 }

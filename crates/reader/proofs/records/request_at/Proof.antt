@@ -10,7 +10,7 @@ unfolding requestRecordAt requestRow kindIn markIn numberIn aIn bIn profitIn sta
 returns c =
     let rest = c .before .before in
     let ends = rest .before .before in
-    simp (c .answer .ensures, c .before .request .ensures, rest .blank .ensures, rest .before .four .ensures, ends .two .ensures .0, ends .before .head-at .ensures)
+    simp (c .answer .ensures, c .before .request .ensures, rest .four-blank .ensures, rest .before .four .ensures, ends .two .ensures .0, ends .before .head-at .ensures)
 
 pub request-at-spec : {M : Type 1} → statement M
 request-at-spec =
