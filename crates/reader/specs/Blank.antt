@@ -29,8 +29,8 @@ module _ (f : List ℕ) (at : ℕ) where
   zeros e i l =
       ⊎-elim (λ (q : i ≡ 0). let here : at + i ≡ at = omega arith in rw here (omega (arith, number)))
       (λ n. ⊎-elim (λ (q : i ≡ 1). rw q (omega (arith, number)))
-        (λ m. ⊎-elim (λ (q : i ≡ 2). rw q (omega (arith, number))) (λ k. let last : i ≡ 3 = omega arith in rw last (omega (arith, number))) (same-or-not i 2))
-        (same-or-not i 1))
+      (λ m. ⊎-elim (λ (q : i ≡ 2). rw q (omega (arith, number))) (λ k. let last : i ≡ 3 = omega arith in rw last (omega (arith, number))) (same-or-not i 2))
+      (same-or-not i 1))
       (same-or-not i 0)
 
   sum : ((i : ℕ) → i < 4 → byte f (at + i) ≡ 0) → four f at ≡ 0
