@@ -35,10 +35,6 @@ rd z = toZ w64 (ofZ w64 z)
 pub back : {z : ℤ} → SFits w64 z → rd z ≡ z
 back f = toZ-ofZ f
 
--- the same in parts: by its bare name, omega applies it to each `SFits w64 z` in scope
-pub rd-bal : (z : ℤ) → SFits w64 z → up (rd z) + dn z ≡ up z + dn (rd z)
-rd-bal z f = rw (back f) (omega arith)
-
 -- ---- what the code makes of values that it read back
 
 -- `made`, which the code computes, is z, and z fits

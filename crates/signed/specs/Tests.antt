@@ -1,14 +1,14 @@
--- The order of two ℤ, as the code tests it (`ltZ`, `leZ`), in the parts of `Parts`.
--- Each test is the test of ℕ on the parts taken crosswise, a − b before c − d as a + d before c + b; the rest follows from the tests of ℕ.
+-- The order of two ℤ, as the code tests it (`leZ`), in the parts of `Parts`.
+-- The test is the test of ℕ on the parts taken crosswise, a − b before c − d as a + d before c + b; the rest follows from the tests of ℕ.
 -- Assumes nothing.
 use mathlib.Core.Path.{_≡_, refl, sym, _∙_}
 use mathlib.Core.Bool.{Bool, true, false}
 use Prim.Native.Nat.{ℕ, suc, _+_, _≤_, _<_}
 use native.Mathlib.Omega.{arith}
-use borrow.Author.Tests.{ltb-true, ltb-false, leb-true, leb-false, lt-ltb, le-ltb, le-leb, lt-leb}
-use lib.Dec.{ltb, leb}
+use borrow.Author.Tests.{leb-true, leb-false, le-leb, lt-leb}
+use lib.Dec.{leb}
 use lib.IntN.{ℤ, pos, negsuc}
-use lib.Signed.{ltZ, leZ}
+use lib.Signed.{leZ}
 use Rattle.signed.specs.Parts.{up, dn}
 
 -- two tests of ℕ that pass together and fail together
@@ -25,19 +25,7 @@ le-is (pos a) (negsuc b) = sym (lt-leb (a + suc b) (0 + 0) (omega arith))
 le-is (negsuc a) (pos b) = sym (le-leb (0 + 0) (b + suc a) (omega arith))
 le-is (negsuc a) (negsuc b) = same-leb b a (0 + suc b) (0 + suc a) (omega arith) (omega arith)
 
-pub lt-is : (a b : ℤ) → ltZ a b ≡ ltb (up a + dn b) (up b + dn a)
-lt-is (pos a) (pos b) = same-leb (suc a) b (suc (a + 0)) (b + 0) (omega arith) (omega arith)
-lt-is (pos a) (negsuc b) = sym (le-ltb (a + suc b) (0 + 0) (omega arith))
-lt-is (negsuc a) (pos b) = sym (lt-ltb (0 + 0) (b + suc a) (omega arith))
-lt-is (negsuc a) (negsuc b) = same-leb (suc b) a (suc (0 + suc b)) (0 + suc a) (omega arith) (omega arith)
-
 -- ---- from a test's outcome to the fact
-pub ltZ-true : (a b : ℤ) → ltZ a b ≡ true → up a + dn b < up b + dn a
-ltZ-true a b e = ltb-true (up a + dn b) (up b + dn a) (sym (lt-is a b) ∙ e)
-
-pub ltZ-false : (a b : ℤ) → ltZ a b ≡ false → up b + dn a ≤ up a + dn b
-ltZ-false a b e = ltb-false (up a + dn b) (up b + dn a) (sym (lt-is a b) ∙ e)
-
 pub leZ-true : (a b : ℤ) → leZ a b ≡ true → up a + dn b ≤ up b + dn a
 leZ-true a b e = leb-true (up a + dn b) (up b + dn a) (sym (le-is a b) ∙ e)
 
