@@ -1,9 +1,9 @@
-// Families that `./bench seek` found hard for our method; renewed when the method changes.
+// Families that `./bench seek` found hard for our method, by the order of insertion that it had then; more come when the method changes.
 #include "families.h"
 #include "knobs.h"
 
 static const Knobs found[] = {
-    // as the method was before
+    // by number
     {3, 0, 33, 2, 5, 5, 1, 5, 10, 14, 1, 18},
     {0, 3, 56, 3, 10, 50, 1, 5, 18, 4, 9, 23},
     {0, 0, 95, 2, 32, 32, 1, 5, 16, 11, 19, 7},
@@ -14,7 +14,7 @@ static const Knobs found[] = {
     {0, 80, 5, 0, 0, 60, 1, 0, 5, 2, 1, 19},
     {0, 71, 2, 3, 13, 19, 3, 3, 4, 1, 6, 16},
     {2, 16, 95, 2, 29, 53, 1, 3, 14, 8, 1, 17},
-    // as it is: insertion by worth, the list of open nodes
+    // by worth, with the list of open nodes
     {2, 39, 54, 3, 48, 16, 3, 6, 15, 14, 7, 18},
     {3, 49, 69, 2, 17, 41, 3, 1, 11, 11, 12, 10},
     {1, 0, 22, 2, 13, 0, 2, 2, 17, 14, 5, 16},
@@ -27,6 +27,23 @@ static const Knobs found[] = {
     {0, 57, 89, 0, 12, 0, 2, 6, 12, 12, 5, 18},
     {2, 68, 62, 1, 49, 1, 3, 3, 4, 4, 16, 23},
     {2, 28, 72, 2, 21, 4, 0, 6, 14, 14, 8, 18},
+    // by guessed prices wherever many ask for the same spans, before an order was tried by filling
+    {3, 11, 10, 3, 60, 10, 1, 3, 19, 0, 11, 21},
+    {0, 0, 13, 2, 3, 7, 1, 3, 16, 14, 8, 20},
+    {2, 20, 2, 2, 62, 14, 1, 3, 18, 10, 2, 16},
+    {3, 30, 0, 2, 8, 8, 1, 3, 3, 5, 11, 20},
+    {3, 0, 14, 2, 9, 6, 1, 5, 10, 11, 10, 9},
+    {3, 93, 21, 2, 47, 12, 3, 5, 15, 5, 5, 16},
+    {0, 90, 40, 1, 2, 16, 1, 5, 16, 12, 13, 16},
+    {0, 29, 67, 1, 1, 23, 1, 5, 17, 10, 13, 12},
+    {2, 35, 0, 2, 14, 11, 1, 4, 11, 3, 3, 0},
+    {0, 54, 60, 0, 24, 0, 1, 5, 18, 7, 10, 22},
+    {3, 95, 16, 2, 12, 33, 3, 4, 19, 11, 12, 4},
+    {2, 39, 81, 1, 7, 49, 3, 3, 17, 9, 1, 11},
+    {3, 69, 36, 2, 36, 10, 3, 1, 19, 12, 12, 8},
+    {3, 20, 81, 2, 59, 0, 1, 0, 19, 12, 5, 14},
+    {2, 22, 0, 2, 25, 4, 1, 2, 4, 3, 16, 11},
+    {2, 42, 90, 2, 21, 20, 2, 4, 16, 14, 4, 21},
 };
 
 std::vector<Family> found_families()
