@@ -6,13 +6,14 @@ use Prim.Native.Nat.{ℕ, zero, suc, _+_, _≤_, _<_}
 use native.Mathlib.Omega.{arith}
 use mathlib.Core.Logic.{⊎-elim}
 use native.Mathlib.Nat.{eq-or-lt-of-le}
+use Rattle.sums.specs.Between.{between}
 use Rattle.sums.specs.Each.{of-yes}
 use Rattle.row.specs.Row.{Row}
 use Rattle.flow.specs.Balanced.{Proper, Balanced}
 use Rattle.flow.specs.Certificate.{deep-more, dropped-at-once}
 use Rattle.flow.specs.Searching.{Ground}
 use Rattle.flow.specs.Raise.{raised}
-use Rattle.flow.specs.Walking.{between, Walking}
+use Rattle.flow.specs.Walking.{Walking}
 use Rattle.flow.specs.WalkSteps.{walk-start, load-new}
 use Rattle.flow.specs.Ends.{Reached, Unreached}
 

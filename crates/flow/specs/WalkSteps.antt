@@ -9,42 +9,12 @@ use native.Mathlib.Nat.{eq-or-lt-of-le, le-of-suc-le-suc}
 use native.Mathlib.Omega.{arith}
 use borrow.Author.Tests.{ltb-true, ltb-false, leb-true, leb-false}
 use lib.Dec.{leb, ltb}
+use Rattle.sums.specs.Between.{between, below, between-below, between-round, between-none}
 use Rattle.sums.specs.Each.{decided, same-or-not, of-yes}
 use Rattle.sums.specs.Sums.{Σ, bit, Σ-ext}
 use Rattle.row.specs.Row.{Row, covers}
 use Rattle.flow.specs.Balanced.{Proper, loadTo, Deep, Balanced}
-use Rattle.flow.specs.Walking.{between, Open, up, down, along, back, Walking}
-
--- ---- the cells between two nodes
-
--- 1 where cell j lies below node v, else 0
-below : ℕ → ℕ → ℕ
-below v j = min 1 (v - j)
-
--- a cell between u and v lies below v and not below u
-between-below : (u v j : ℕ) → between u v j ≡ below v j - below u j
-unfolding between below
-between-below u v j = go (leb u j) (ltb j v) refl refl
-  where
-    go : (p q : Bool) → leb u j ≡ p → ltb j v ≡ q → bit (p && q) ≡ below v j - below u j
-    go true true e f = omega (arith, leb-true u j e, ltb-true j v f)
-    go true false e f = omega (arith, ltb-false j v f)
-    go false q e f = omega (arith, leb-false u j e)
-
--- so the cells from u to v, less those from v to u, are a difference, and differences add up
-between-turn : (u v j : ℕ) → between u v j + below u j ≡ between v u j + below v j
-between-turn u v j = omega (arith, between-below u v j, between-below v u j)
-
--- round any three nodes, either way
-pub between-round : (u v w j : ℕ) → between u v j + between v w j + between w u j ≡ between v u j + between w v j + between u w j
-between-round u v w j = omega (arith, between-turn u v j, between-turn v w j, between-turn w u j)
-
-pub between-none : (u v j : ℕ) → v ≤ u → between u v j ≡ 0
-unfolding below
-between-none u v j h = omega (arith, between-below u v j)
-
-pub between-join : (u v w j : ℕ) → u ≤ v → v ≤ w → between u v j + between v w j ≡ between u w j
-between-join u v w j h l = omega (arith, between-round u v w j, between-none v u j h, between-none w v j l, between-none w u j (omega arith))
+use Rattle.flow.specs.Walking.{Open, up, down, along, back, Walking}
 
 -- ---- loads
 

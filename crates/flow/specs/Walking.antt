@@ -1,16 +1,11 @@
 -- The walk back from a to b along the arcs by which labels came, flipping each: a dropped candidate is kept and a kept one dropped, a cell
 -- passed upwards gains room and one passed downwards loses it. At node v the loads are right but for the cells between v and b. Assumes nothing.
-use mathlib.Core.Bool.{Bool, true, false, _&&_}
+use mathlib.Core.Bool.{Bool, true, false}
 use mathlib.Core.Path.{_≡_}
 use Prim.Native.Nat.{ℕ, suc, _+_, _≤_, _<_}
-use lib.Dec.{leb, ltb}
-use Rattle.sums.specs.Sums.{bit}
+use Rattle.sums.specs.Between.{between}
 use Rattle.row.specs.Row.{Row}
 use Rattle.flow.specs.Balanced.{Deep, loadTo}
-
--- the cells from node u up to node v
-unfoldable pub between : ℕ → ℕ → ℕ → ℕ
-between u v j = bit (leb u j && ltb j v)
 
 -- arc e from u to v is open in the state (x, s), and tight at the depths N
 pub data Open (row : Row) (t : ℕ) (x : ℕ → Bool) (s N : ℕ → ℕ) (e u v : ℕ) : Type 0 where

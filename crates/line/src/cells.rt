@@ -39,20 +39,6 @@ fn lay(
     }
 }
 
-// The limits as the room that there is.
-fn make_room(cells: usize, limits: &[usize; 64], room: &mut [usize; 128])
-    requires { ⌜ cells ≤ 63 ⌝ }
-    ensures { λ r. ⌜ Filled (at (now (limits .entry))) cells (now (room .exit)) ⌝ }
-{
-    // tells how many places there are
-    let all = &room[..];
-    let mut j = 0;
-    while j < cells {
-        room[j] = limits[j];
-        j += 1;
-    }
-}
-
 // The candidates in the order in which they are inserted.
 fn arrange(
     count: usize,
@@ -120,7 +106,7 @@ pub fn solve(
     let mut costs = [0i64; 256];
     let mut keep = [false; 256];
     lay(count, a, b, profit, lo, hi, &mut cost);
-    make_room(cells, limits, &mut room);
+    lists::copy(cells, limits, &mut room);
     order::ordered(cells, count, limits, lo, hi, profit, &mut order, &mut place);
     arrange(count, &order, lo, hi, &cost, &mut los, &mut his, &mut costs);
     planrow::plan_row(cells, count, &los, &his, &costs, &mut keep, &mut room, dist);

@@ -105,7 +105,7 @@ pub fn plan_line(
     }
     entries::enter(count, a, b, &kept, &channel, &mut entries);
     // cell j is span j, so its price goes to place j
-    order::by_number(cells, &mut place);
+    lists::by_number(cells, &mut place);
     cells::price(cells, &dist, &place, &mut prices[..cells]);
     let answer = Solved::Planned {
         earned: entries::earned(count, &kept, profit),

@@ -2,45 +2,6 @@
 // more so leaves less to search for. Nothing is promised but safety.
 ghost use Prim.Native.Nat.{_≤_, _<_};
 
-// Whether every span from a to b - 1 has room left.
-fn fits(room: &[usize; 64], a: usize, b: usize) -> bool
-    requires { ⌜ b ≤ 64 ⌝ }
-{
-    let mut j = a;
-    while j < b {
-        if room[j] == 0 {
-            return false;
-        }
-        j += 1;
-    }
-    true
-}
-
-// Takes one of room on every span from a to b - 1.
-fn take(room: &mut [usize; 64], a: usize, b: usize)
-    requires { ⌜ b ≤ 64 ⌝ }
-{
-    let mut j = a;
-    while j < b {
-        let left = room[j];
-        if 0 < left {
-            room[j] = left - 1;
-        }
-        j += 1;
-    }
-}
-
-// The limits as room.
-fn open(cells: usize, limits: &[usize; 64], room: &mut [usize; 64])
-    requires { ⌜ cells < 64 ⌝ }
-{
-    let mut j = 0;
-    while j < cells {
-        room[j] = limits[j];
-        j += 1;
-    }
-}
-
 // What request r brings: its profit where it fits, and then it takes its room.
 fn brought(
     r: usize,
@@ -57,15 +18,15 @@ fn brought(
         return 0;
     }
     let a = lo[r];
-    if fits(room, a, b) {
-        take(room, a, b);
+    if lists::room_between(room, a, b) {
+        lists::take_room(room, a, b);
         return profit[r];
     }
     0
 }
 
 // What the order brings.
-pub fn filled(
+fn filled(
     cells: usize,
     count: usize,
     limits: &[usize; 64],
@@ -77,7 +38,7 @@ pub fn filled(
     requires { ⌜ (cells < 64) × (count ≤ 256) ⌝ }
 {
     let mut room = [0usize; 64];
-    open(cells, limits, &mut room);
+    lists::copy(cells, limits, &mut room);
     let mut sum = 0;
     let mut i = 0;
     while i < count {
@@ -90,4 +51,24 @@ pub fn filled(
         i += 1;
     }
     sum
+}
+
+// The other order in place of this one, where it brings more.
+pub fn take_better(
+    cells: usize,
+    count: usize,
+    limits: &[usize; 64],
+    lo: &[usize; 256],
+    hi: &[usize; 256],
+    profit: &[usize; 256],
+    other: &[usize; 256],
+    order: &mut [usize; 256],
+)
+    requires { ⌜ (cells < 64) × (count ≤ 256) ⌝ }
+{
+    let old = filled(cells, count, limits, lo, hi, profit, order);
+    let new = filled(cells, count, limits, lo, hi, profit, other);
+    if old < new {
+        lists::copy(count, other, order);
+    }
 }

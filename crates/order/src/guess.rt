@@ -144,6 +144,11 @@ fn ask(
     }
 }
 
+// The load of a span, from that of the span before: those that end there go, those that begin come.
+fn load_after(load: usize, begin: usize, end: usize) -> usize {
+    less(more(load, begin), end)
+}
+
 // How far a price moves for each request too many: the first step is `unit` for a span that would lose or gain all.
 fn rate(unit: usize, load: usize, limit: usize) -> usize {
     if 1000 < load {
@@ -158,9 +163,11 @@ fn rate(unit: usize, load: usize, limit: usize) -> usize {
     unit / (load + 1)
 }
 
-// The rate of each span. Answers how many spans more ask for than their limit.
+// The rate of each span. Answers how many spans more ask for than their limit, and 0 where one span is asked for by all: it alone decides there, and worth tells
+// as much as a price.
 fn rate_all(
     cells: usize,
+    count: usize,
     limits: &[usize; 64],
     begins: &[usize; 64],
     ends: &[usize; 64],
@@ -173,7 +180,10 @@ fn rate_all(
     let mut load = 0;
     let mut j = 0;
     while j < cells {
-        load = less(more(load, begins[j]), ends[j]);
+        load = load_after(load, begins[j], ends[j]);
+        if count <= load {
+            return 0;
+        }
         rates[j] = rate(unit, load, limits[j]);
         if limits[j] < load {
             over = more(over, 1);
@@ -226,7 +236,7 @@ fn move_all(
     let mut load = 0;
     let mut j = 0;
     while j < cells {
-        load = less(more(load, begins[j]), ends[j]);
+        load = load_after(load, begins[j], ends[j]);
         let price = moved(prices[j], load, limits[j], rates[j]);
         prices[j] = price;
         rates[j] = slower(rates[j]);
@@ -330,7 +340,7 @@ fn at_prices(
     let sum = bid_all(count, profit, off, &mut bids);
     ask(count, lo, hi, &bids, &tolls, &mut begins, &mut ends);
     let unit = first_step(sum, length);
-    let over = rate_all(cells, limits, &begins, &ends, unit, &mut rates);
+    let over = rate_all(cells, count, limits, &begins, &ends, unit, &mut rates);
     if over < 8 {
         return 0;
     }

@@ -16,7 +16,7 @@ use Rattle.flow.specs.Balanced.{Balanced}
 use Rattle.flow.specs.Certificate.{cost-depth, dropped-at-once}
 use Rattle.flow.specs.Insert.{insert-free, insert-dropped, insert-walks}
 use Rattle.flow.specs.Raise.{raised, raised-upto}
-use Rattle.flow.specs.Walking.{between}
+use Rattle.sums.specs.Between.{between}
 use Rattle.planrow.specs.Bare.{proper-limited, deep-limited, reached-limited, unreached-limited}
 use Rattle.planrow.specs.Fewer.{proper-fewer, below-fewer}
 use Rattle.planrow.specs.SameDepths.{balanced-same}

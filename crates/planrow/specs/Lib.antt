@@ -8,7 +8,6 @@ pub mod Start
 pub mod Stages
 pub mod OpenNodes
 pub mod SearchLoop
-pub mod Rooms
 pub mod Depths
 pub mod Joining
 pub mod LatestBelow

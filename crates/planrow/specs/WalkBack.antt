@@ -13,7 +13,7 @@ use Rattle.flow.specs.Balanced.{Balanced}
 use Rattle.flow.specs.Walking.{Walking}
 use Rattle.flow.specs.WalkSteps.{which-arc, walk-in, along-ends, back-ends, up-cell, down-room, step-up, step-down, step-keep, step-drop, walk-falls, walk-end}
 use Rattle.planrow.specs.State.{at, flag, Links, Chains, CanWalk, CanTurn, CanFlip, TurnedRound, Flipped}
-use Rattle.planrow.specs.Rooms.{at-most-one}
+use Rattle.sums.specs.Between.{at-most-one}
 
 -- ---- the ways through flip
 

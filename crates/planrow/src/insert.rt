@@ -1,9 +1,7 @@
 // Inserting one candidate, and what goes with it.
 ghost use mathlib.Core.Path.{_≡_};
-ghost use mathlib.Core.Bool.{true};
-ghost use Prim.Native.Nat.{ℕ, suc, _+_, _-_, _≤_, _<_};
+ghost use Prim.Native.Nat.{suc, _+_, _-_, _≤_};
 ghost use Rattle.signed.specs.Parts.{dn};
-ghost use Rattle.flow.specs.Walking.{between};
 ghost use Rattle.planrow.specs.State.{at, Below, links, Chains, Deepened, CanInsert, Standing, Gains, Flat};
 use crate::chains;
 use crate::search;
@@ -19,34 +17,6 @@ pub fn gain_of(cost: i64, near: i64, far: i64) -> usize
         return 0;
     }
     gain as usize
-}
-
-// Whether every cell from a to b - 1 has room.
-pub fn room_between(room: &[usize; 128], a: usize, b: usize) -> bool
-    requires { ⌜ b ≤ 128 ⌝ }
-    ensures { λ r. ⌜ (r ≡ true → (j : ℕ) → a ≤ j → j < b → 0 < at (now (room .entry)) j) ⌝ }
-{
-    let mut j = a;
-    while j < b {
-        if room[j] == 0 {
-            return false;
-        }
-        j += 1;
-    }
-    true
-}
-
-// Takes one of room on every cell from a to b - 1.
-pub fn take_room(room: &mut [usize; 128], a: usize, b: usize)
-    requires { ⌜ b ≤ 128 ⌝ }
-    requires { ⌜ ((j : ℕ) → a ≤ j → j < b → 0 < at (now room) j) ⌝ }
-    ensures { λ r. ⌜ ((j : ℕ) → at (now (room .exit)) j + between a b j ≡ at (now (room .entry)) j) ⌝ }
-{
-    let mut j = a;
-    while j < b {
-        room[j] -= 1;
-        j += 1;
-    }
 }
 
 // Every node at distance 0.
@@ -111,8 +81,8 @@ pub fn insert(
         chains::enter(cells, t, lo, kept, head_lo, next_lo, false);
         return;
     }
-    if room_between(room, a, b) {
-        take_room(room, a, b);
+    if lists::room_between(room, a, b) {
+        lists::take_room(room, a, b);
         chains::enter(cells, t, hi, kept, head_hi, next_hi, true);
         return;
     }

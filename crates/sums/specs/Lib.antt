@@ -6,6 +6,7 @@ pub mod Pigeons
 pub mod Tests
 pub mod Greatest
 pub mod At
+pub mod Between
 pub mod Filled
 pub mod Turns
 pub mod Permuted

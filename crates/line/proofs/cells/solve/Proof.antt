@@ -1,5 +1,6 @@
 -- The laid candidates and the limits are a row that can be planned, in any order; what the planner leaves of the arranged row it leaves, by number, of
 -- the row as laid. Assumes nothing.
+use native.Mathlib.Omega.{arith}
 use borrow.Author.Needs.{needs}
 use Rattle.line.specs.Solving.{can-plan}
 use Rattle.line.specs.Reordered.{can-arranged, reordered}
@@ -10,11 +11,11 @@ use Rattle.line.proofs.cells.solve.Tie as tie
 abbrev start : tie.After-lay → tie.Start
 start l = l .before .before .before .before
 
-abbrev laid : tie.After-make-room → tie.After-lay
-laid m = m .before .before
+abbrev laid : tie.After-copy → tie.After-lay
+laid m = m .before .before .before
 
-abbrev made : tie.After-ordered → tie.After-make-room
-made o = o .before .before .before .before .before
+abbrev made : tie.After-ordered → tie.After-copy
+made o = o .before .before .before .before .before .before
 
 abbrev ranked : tie.After-arrange → tie.After-ordered
 ranked a = a .before .before .before .before .before .before .before .before
@@ -25,7 +26,7 @@ plan-row-requires c κs =
     let o = ranked a in
     let m = made o in
     let l = laid m in
-    can-arranged (o .ordered .ensures) (a .arrange .ensures) (can-plan (start l .pre) (l .lay .ensures) (m .make-room .ensures))
+    can-arranged (o .ordered .ensures) (a .arrange .ensures) (can-plan (start l .pre) (l .lay .ensures) (m .copy .ensures))
 
 put-back-requires : tie.Need-put-back-requires
 put-back-requires c κs =
@@ -42,7 +43,7 @@ returns c =
       cost = _;
       candidates = laid m .lay .ensures;
       free = _;
-      free-is = m .make-room .ensures;
+      free-is = m .copy .ensures;
       room = _;
       standing = reordered (o .ordered .ensures) (a .arrange .ensures) (c .put-back .ensures) (p .plan-row .ensures);
     }
@@ -52,6 +53,7 @@ solve-spec =
     tie.close
     (tie.spec
     (λ c κs. search needs)
+    (λ c. omega arith)
     (λ c κs. search needs)
     (λ c κs. search needs)
     (λ c κs. search needs)

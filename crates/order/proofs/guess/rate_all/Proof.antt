@@ -6,10 +6,10 @@ use Rattle.order.proofs.guess.rate_all.Statement.{statement}
 use Rattle.order.proofs.guess.rate_all.Tie as tie
 
 abbrev Inv-loop : tie.InvT-loop
-Inv-loop cells limits begins ends unit rates₀ over₀ load₀ j₀ rates over load j = j ≤ cells
+Inv-loop cells count limits begins ends unit rates₀ over₀ load₀ j₀ rates over load j = j ≤ cells
 
 abbrev μ-loop : tie.MeasureT-loop
-μ-loop cells limits begins ends unit rates₀ over₀ load₀ j₀ rates over load j = cells - j
+μ-loop cells count limits begins ends unit rates₀ over₀ load₀ j₀ rates over load j = cells - j
 
 pub rate-all-spec : {M : Type 1} → statement M
 rate-all-spec =
@@ -20,10 +20,10 @@ rate-all-spec =
     (λ c. omega arith)
     (λ c. omega arith)
     (λ c. omega arith)
-    (λ c κs. search needs)
     (λ c. omega arith)
     (λ c. omega arith)
     (λ c κs. search needs)
+    (λ c. search needs)
     (λ c. omega arith)
     (λ c. omega arith)
     (λ c κs. search needs)

@@ -16,7 +16,7 @@ use Rattle.planrow.proofs.insert.insert.Tie as tie
 
 -- from the search to the gain, from the gain to the slice, and to the entry
 abbrev gained : tie.After-search → tie.After-gain-of
-gained f = f .before .before .before .before .before .before .before .before .before .before .before .before .before .before .before .before .before
+gained f = f .before .before .before .before .before .before .before .before .before .before .before .before .before .before .before .before .before .before
 
 abbrev sliced : tie.After-gain-of → tie.After-flags2
 sliced g = g .before .before .before .before .before .before
@@ -45,7 +45,7 @@ gain-small : (g : tie.After-gain-of) → g .gain-of .result ≤ 1000000
 gain-small g = omega (arith, gain-is g, gain-upto (entry g .pre))
 
 gain-some : (f : tie.After-search) → gained f .gain-of .result ≡ 0 → ⊥
-gain-some f = f .before .before .before .before .before .before .before .before .before .before .before .before .before .before .before .before .if1 .left
+gain-some f = f .before .before .before .before .before .before .before .before .before .before .before .before .before .before .before .before .before .if1 .left
 
 -- it has its place among the flags
 in-flags : (s : tie.After-flags2) → let a = s .before .before .args in a .t < length (a .kept .now)
@@ -83,17 +83,17 @@ returns c =
 -- ---- every cell has room: kept at once
 
 room-between-requires : tie.Need-room-between-requires
-room-between-requires c κs = omega (arith, last-node (entry (c .before .before)))
+room-between-requires c κs = omega (arith, last-node (entry (c .before .before .before)))
 
 take-room-requires : tie.Need-take-room-requires
-take-room-requires c κs = (omega (arith, last-node (entry (c .before .before .before .before .before))), c .before .before .room-between .ensures (c .before .if2 .taken))
+take-room-requires c κs = (omega (arith, last-node (entry (c .before .before .before .before .before .before))), c .before .before .room-between .ensures (c .before .if2 .taken))
 
 enter-requires-2 : tie.Need-enter-requires-2
-enter-requires-2 c κs = let p = entry (c .before .before .before .before .before .before .before .before .before) .pre in ((p .cells-upto, p .t-upto, inside p), p .chains .held)
+enter-requires-2 c κs = let p = entry (c .before .before .before .before .before .before .before .before .before .before) .pre in ((p .cells-upto, p .t-upto, inside p), p .chains .held)
 
 returns-2 : tie.Need-returns-2
 returns-2 c =
-    let k = c .before .before .before .before in let g = k .before .before .before .before .before .before in let e = c .enter2 .ensures in (
+    let k = c .before .before .before .before in let g = k .before .before .before .before .before .before .before in let e = c .enter2 .ensures in (
       λ w. rw (e .0) (kept-at-once w (long (sliced g)) (k .before .before .before .room-between .ensures (k .before .before .if2 .taken)) (k .take-room .ensures)),
       entered-kept (in-flags (sliced g)) (entry g .pre .chains) (e .0) (e .1),
     )
@@ -102,7 +102,7 @@ returns-2 c =
 
 search-requires : tie.Need-search-requires
 search-requires c κs =
-    let i = c .before .before .before .before .before .before .before .before .before .before .before .before .before .before .before in let g = i .before in let p = entry g .pre in
+    let i = c .before .before .before .before .before .before .before .before .before .before .before .before .before .before .before .before in let g = i .before in let p = entry g .pre in
     (ready p, (p .chains, (first-in p, inside p, omega (arith, i .if1 .left), gain-small g)))
 
 mul-near : tie.Need-mul-near

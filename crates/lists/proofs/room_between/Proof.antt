@@ -1,10 +1,10 @@
--- The loop's invariant: every cell from a up to j has room. The measure is what is left up to b. Assumes nothing.
+-- The loop's invariant: every place from a up to j has room. The measure is what is left up to b. Assumes nothing.
 use Prim.Native.Nat.{_-_}
 use native.Mathlib.Omega.{arith}
 use Rattle.sums.specs.Each.{of-yes}
-use Rattle.planrow.specs.Rooms.{RoomTo, room-none, room-next}
-use Rattle.planrow.proofs.insert.room_between.Statement.{statement}
-use Rattle.planrow.proofs.insert.room_between.Tie as tie
+use Rattle.lists.specs.Room.{RoomTo, room-none, room-next}
+use Rattle.lists.proofs.room_between.Statement.{statement}
+use Rattle.lists.proofs.room_between.Tie as tie
 
 abbrev Inv-loop : tie.InvT-loop
 Inv-loop room a b j₀ j = RoomTo a j room

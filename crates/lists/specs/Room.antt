@@ -1,20 +1,15 @@
--- Room on the cells between two nodes: seen to be there cell by cell, and taken cell by cell, so that the cells passed have one less and the
+-- Room on the cells between two nodes, or on the spans: seen to be there cell by cell, and taken cell by cell, so that the cells passed have one less and the
 -- others are as before. Assumes nothing.
-use mathlib.Core.Path.{_≡_, refl}
-use mathlib.Core.Bool.{Bool, true, false, _&&_}
+use mathlib.Core.Path.{_≡_}
 use mathlib.Core.List.{List, [], _∷_}
 use mathlib.Core.Logic.{⊎-elim}
 use Prim.Native.Nat.{ℕ, zero, suc, _+_, _-_, _≤_, _<_, min}
 use native.Mathlib.Omega.{arith}
-use borrow.Author.Tests.{le-leb, lt-ltb, leb-true, ltb-true}
-use lib.Dec.{leb, ltb}
 use lib.ListN.{length, set}
 use lib.Seq.{getD-set-same, getD-set-other}
 use Rattle.sums.specs.Each.{same-or-not}
-use Rattle.sums.specs.Sums.{bit, bit-le}
-use Rattle.flow.specs.Walking.{between}
-use Rattle.flow.specs.WalkSteps.{between-none, between-join}
-use Rattle.planrow.specs.State.{at}
+use Rattle.sums.specs.At.{at}
+use Rattle.sums.specs.Between.{between, between-none, between-join, at-most-one, only-one, no-other}
 
 -- every cell from a to i - 1 has room
 pub record RoomTo (a i : ℕ) (room : List ℕ) : Type 0 where
@@ -29,24 +24,6 @@ room-next {a} {i} {room} seen here = record {
 }
 
 -- ---- taking room, one cell more
-
--- the cells between a node and the next are one cell
-one-cell : (i : ℕ) → between i (i + 1) i ≡ 1
-unfolding between
-one-cell i = rw (le-leb i i (omega arith), lt-ltb i (i + 1) (omega arith))
-
-no-other : (i j : ℕ) → (j ≡ i → ⊥) → between i (i + 1) j ≡ 0
-unfolding between
-no-other i j n = go (leb i j) (ltb j (i + 1)) refl refl
-  where
-    go : (p q : Bool) → leb i j ≡ p → ltb j (i + 1) ≡ q → bit (p && q) ≡ 0
-    go true true e f = absurd (n (omega (arith, leb-true i j e, ltb-true j (i + 1) f)))
-    go true false e f = refl
-    go false q e f = refl
-
-pub at-most-one : (u v j : ℕ) → between u v j ≤ 1
-unfolding between
-at-most-one u v j = bit-le (leb u j && ltb j v)
 
 -- past its end an array holds 0
 inside : (xs : List ℕ) (i : ℕ) → 0 < at xs i → i < length xs
@@ -74,13 +51,13 @@ module _ {a b i : ℕ} {room₀ room : List ℕ} (taken : TakenTo a b i room₀ 
 
   -- the cell that comes next is as it was
   pub taken-room : 0 < at room i
-  taken-room = omega (arith, given i (taken .past) l, before i, one-more i, one-cell i, at-most-one a (i + 1) i)
+  taken-room = omega (arith, given i (taken .past) l, before i, one-more i, only-one i, at-most-one a (i + 1) i)
 
   pub taken-next : TakenTo a b (i + 1) room₀ (set room i (at room i - 1))
   taken-next = record { past = omega (arith, taken .past); less = λ j. let m : min (i + 1) b ≡ i + 1 = omega arith in rw m (⊎-elim (here j) (other j) (same-or-not j i)) }
     where
       here : (j : ℕ) → j ≡ i → at (set room i (at room i - 1)) j + between a (i + 1) j ≡ at room₀ j
-      here j q = rw q (omega (arith, getD-set-same room i (at room i - 1) 0 (inside room i taken-room), taken-room, before i, one-more i, one-cell i))
+      here j q = rw q (omega (arith, getD-set-same room i (at room i - 1) 0 (inside room i taken-room), taken-room, before i, one-more i, only-one i))
 
       other : (j : ℕ) → (j ≡ i → ⊥) → at (set room i (at room i - 1)) j + between a (i + 1) j ≡ at room₀ j
       other j n = omega (arith, getD-set-other room i j (at room i - 1) 0 n, before j, one-more j, no-other i j n)
