@@ -65,12 +65,16 @@ size_t rate(size_t unit, size_t load, size_t limit)
     return unit / ((load < limit ? limit : load) + 1);
 }
 
-// Answers how many spans more ask for than their limit.
-size_t rate_all(size_t cells, const size_t *limits, const size_t *begins, const size_t *ends, size_t unit, size_t *rates)
+// The load of a span, from that of the span before.
+size_t load_after(size_t load, size_t begin, size_t end) { return less(more(load, begin), end); }
+
+// Answers how many spans more ask for than their limit, and 0 where one span is asked for by all.
+size_t rate_all(size_t cells, size_t count, const size_t *limits, const size_t *begins, const size_t *ends, size_t unit, size_t *rates)
 {
     size_t over = 0, load = 0;
     for (size_t j = 0; j < cells; j++) {
-        load = less(more(load, begins[j]), ends[j]);
+        load = load_after(load, begins[j], ends[j]);
+        if (count <= load) return 0;
         rates[j] = rate(unit, load, limits[j]);
         if (limits[j] < load) over = more(over, 1);
     }
@@ -90,7 +94,7 @@ void move_all(size_t cells, const size_t *limits, const size_t *begins, const si
 {
     size_t toll = 0, load = 0;
     for (size_t j = 0; j < cells; j++) {
-        load = less(more(load, begins[j]), ends[j]);
+        load = load_after(load, begins[j], ends[j]);
         prices[j] = moved(prices[j], load, limits[j], rates[j]);
         rates[j] = slower(rates[j]);
         tolls[j + 1] = toll = more(toll, prices[j]);
@@ -127,7 +131,7 @@ size_t at_prices(size_t cells, size_t count, const size_t *limits, const size_t 
     size_t bids[256] = {}, begins[64] = {}, ends[64] = {}, rates[64] = {}, tolls[64] = {};
     size_t sum = bid_all(count, profit, off, bids);
     ask(count, lo, hi, bids, tolls, begins, ends);
-    if (rate_all(cells, limits, begins, ends, first_step(sum, length), rates) < 8) return 0;
+    if (rate_all(cells, count, limits, begins, ends, first_step(sum, length), rates) < 8) return 0;
     settle(cells, count, limits, lo, hi, bids, rates, tolls);
     return surplus_all(count, lo, hi, bids, tolls, slack, worths);
 }
