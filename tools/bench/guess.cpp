@@ -32,7 +32,8 @@ bool contested(size_t cells, size_t count, const size_t *limits, size_t length)
 {
     size_t room = total(cells, limits);
     if (length <= room || room < length / 15) return false;
-    return length <= 16 * count || room / (4 * cells + 1) <= range(cells, limits).least;
+    size_t least = range(cells, limits).least;
+    return least != 0 && (length <= 16 * count || room / (4 * cells + 1) <= least);
 }
 
 size_t flat_part(size_t least, size_t greatest)

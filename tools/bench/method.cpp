@@ -194,10 +194,25 @@ void take_room(size_t *room, size_t a, size_t b)
     for (size_t j = a; j < b; j++) room[j] -= 1;
 }
 
-void level(int64_t *dist, size_t cells)
+// ---- steps
+
+int64_t lowest_cost(size_t count, const int64_t *cost)
 {
-    for (size_t v = 0; v <= cells; v++) dist[v] = 0;
+    int64_t low = 0;
+    for (size_t i = 0; i < count; i++)
+        if (cost[i] < low) low = cost[i];
+    return low;
 }
+
+// A cell without room has its price from the start.
+void begin(size_t cells, size_t count, const int64_t *cost, const size_t *room, int64_t *dist)
+{
+    int64_t fall = lowest_cost(count, cost);
+    dist[0] = 0;
+    for (size_t j = 0; j < cells; j++) dist[j + 1] = room[j] == 0 ? dist[j] + fall : dist[j];
+}
+
+// ---- insert
 
 void deepen(Ground &g, const size_t *label, size_t to)
 {
@@ -234,7 +249,7 @@ void plan_row(size_t cells, size_t count, const size_t *lo, const size_t *hi, co
 {
     Ground g = {cells, lo, hi, cost, kept, room, dist, {}, {}, {}, {}};
     Search s = {};
-    level(dist, cells);
+    begin(cells, count, cost, room, dist);
     for (size_t t = 0; t < count; t++) insert(g, s, t);
 }
 }  // namespace plain::planrow

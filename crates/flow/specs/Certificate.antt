@@ -33,13 +33,13 @@ cost-depth row {N} rises i ordered inside =
 
 -- ---- at the start and at the end
 
-pub empty-balanced : {row : Row} {x : ℕ → Bool} {s N : ℕ → ℕ} → ((j : ℕ) → j < row .cells → s j ≡ row .limit j) → ((j : ℕ) → j ≤ row .cells → N j ≡ 0) → Balanced row 0 x s N
+pub empty-balanced : {row : Row} {x : ℕ → Bool} {s N : ℕ → ℕ} → ((j : ℕ) → j < row .cells → s j ≡ row .limit j) → ((j : ℕ) → j < row .cells → N j ≤ N (suc j)) → ((j : ℕ) → j < row .cells → 0 < s j → N (suc j) ≤ N j) → Balanced row 0 x s N
 unfolding loadTo Σ
-empty-balanced free flat = record {
+empty-balanced free rises level = record {
   room = λ j l. omega (arith, free j l);
   deep = record {
-    rises = λ j l. omega (arith, flat j (omega arith));
-    level = λ j l r. omega (arith, flat (suc j) l);
+    rises = rises;
+    level = level;
     paid = λ i l k. absurd (omega arith);
     dropped = λ i l k. absurd (omega arith);
   };

@@ -77,7 +77,7 @@ module _ {nodes k count : ℕ} {limits a b profits : List ℕ} (w : CanPlanLine 
         at-cell = λ j l. record {
           near-not-above = s .standing .dists .not-above j (omega arith);
           far-not-above = s .standing .dists .not-above (suc j) (omega arith);
-          far-low = omega (arith, s .standing .dists .upto (suc j) (omega arith), can-solve .profits-are .few);
+          far-low = omega (arith, s .standing .dists .upto (suc j) (omega arith), can-solve .cells-upto, can-solve .profits-are .few);
           falls = s .standing .balanced .deep .rises j l;
         };
       }

@@ -14,7 +14,7 @@ use Rattle.row.specs.Clamp.{clamp}
 use Rattle.flow.specs.Balanced.{priceAt}
 use Rattle.book.specs.Columns.{at}
 use Rattle.lines.specs.Entries.{entered}
-use Rattle.planrow.specs.State.{flag, depth, Standing}
+use Rattle.planrow.specs.State.{flag, depth, lowest, Standing}
 
 -- at most 256 requests, each with a profit of at most 1,000,000
 pub record Profits (count : ℕ) (profits : List ℕ) : Type 0 where
@@ -50,7 +50,7 @@ pub record Solves (cells count : ℕ) (limits a b profits lo hi : List ℕ) (kep
 pub record Falls (near far : ℤ) : Type 0 where
   pub near-not-above : up near ≡ 0
   pub far-not-above : up far ≡ 0
-  pub far-low : dn far ≤ 256000000
+  pub far-low : dn far ≤ lowest
   pub falls : dn near ≤ dn far
 
 -- along the whole row

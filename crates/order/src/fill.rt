@@ -53,7 +53,7 @@ fn filled(
     sum
 }
 
-// The other order in place of this one, where it brings more.
+// The other order in place of this one, where it brings more or hardly less.
 pub fn take_better(
     cells: usize,
     count: usize,
@@ -68,7 +68,7 @@ pub fn take_better(
 {
     let old = filled(cells, count, limits, lo, hi, profit, order);
     let new = filled(cells, count, limits, lo, hi, profit, other);
-    if old < new {
+    if old - old / 64 <= new {
         lists::copy(count, other, order);
     }
 }

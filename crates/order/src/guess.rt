@@ -64,6 +64,7 @@ fn middling(count: usize, length: usize) -> bool
 }
 
 // Whether they ask for more than there is room for and for no more than fifteen times that, on spans that are much alike or by requests that are not too long.
+// Where a span has no channel, what crosses it asks in vain, and the count says little.
 fn contested(cells: usize, count: usize, limits: &[usize; 64], length: usize) -> bool
     requires { ⌜ (cells < 64) × (count ≤ 256) ⌝ }
 {
@@ -74,10 +75,13 @@ fn contested(cells: usize, count: usize, limits: &[usize; 64], length: usize) ->
     if room < length / 15 {
         return false;
     }
+    let least = worth::range(cells, limits).least;
+    if least == 0 {
+        return false;
+    }
     if length <= 16 * count {
         return true;
     }
-    let least = worth::range(cells, limits).least;
     room / (4 * cells + 1) <= least
 }
 

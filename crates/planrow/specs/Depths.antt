@@ -1,10 +1,10 @@
 -- Distances and costs are at most 0, so each is known by its depth, and what the code computes on them is said here of depths: a candidate's
--- gain, and the two loops over the nodes, by what they have done before node v. Nothing leaves the range of i64. Assumes nothing.
+-- gain, and the loop over the nodes, by what it has done before node v. Nothing leaves the range of i64. Assumes nothing.
 use mathlib.Core.Path.{_≡_, refl, ap, _∙_}
 use mathlib.Core.Bool.{true, false}
-use mathlib.Core.List.{List, [], _∷_}
+use mathlib.Core.List.{List}
 use mathlib.Core.Logic.{⊎-elim}
-use Prim.Native.Nat.{ℕ, zero, suc, _+_, _-_, _≤_, _<_}
+use Prim.Native.Nat.{ℕ, suc, _+_, _*_, _-_, _≤_, _<_}
 use native.Mathlib.Omega.{arith}
 use lib.Dec.{T}
 use lib.IntN.{ℤ, pos, natAbs, _-ℤ_}
@@ -19,7 +19,7 @@ use Rattle.signed.specs.Parts.{up, dn, Dif, dif, abs, apart, not-below}
 use Rattle.signed.specs.Tests.{leZ-true, leZ-false}
 use Rattle.sums.specs.Each.{same-or-not}
 use Rattle.flow.specs.Raise.{raised}
-use Rattle.planrow.specs.State.{at, depth, Gains, Deepened, Below}
+use Rattle.planrow.specs.State.{at, depth, lowest, Gains, Deepened, Below}
 
 -- ---- a candidate's gain
 
@@ -32,7 +32,7 @@ made cost near far = rd (rd far -ℤ rd near) -ℤ rd cost
 
 module _ {cost near far : ℤ} (g : Gains cost near far) where
   pub first-part : ReadsAs (rd far -ℤ rd near) (far -ℤ near)
-  first-part = taken {b = 256000000} far near (omega arith) (omega arith) (omega arith)
+  first-part = taken {b = lowest} far near (omega arith) (omega arith) (omega arith)
 
   pub gain-made : ReadsAs (made cost near far) (gain cost near far)
   gain-made =
@@ -41,7 +41,7 @@ module _ {cost near far : ℤ} (g : Gains cost near far) where
       cost
       (first-part .again)
       (back (within cost 1000000 (omega arith) (omega arith)))
-      (within _ 600000000 (omega arith) (omega (arith, dif far near, dif (far -ℤ near) cost)))
+      (within _ (2 * lowest) (omega arith) (omega (arith, dif far near, dif (far -ℤ near) cost)))
 
   above : up (gain cost near far) ≡ dn near + dn cost - dn far
   above = omega (arith, dif far near, dif (far -ℤ near) cost, apart (far -ℤ near -ℤ cost))
@@ -60,23 +60,6 @@ module _ {cost near far : ℤ} (g : Gains cost near far) where
     pub gained : natAbs (rd (made cost near far)) ≡ dn near + dn cost - dn far
     gained = rw (gain-made .again) (omega (arith, abs (gain cost near far), positive, above))
 
--- ---- every node at distance 0
-
--- storing what stands for a place past the end leaves that there
-put-zero : (zs : List ℤ) (i : ℕ) → getD (set zs i (pos 0)) i (pos 0) ≡ pos 0
-put-zero [] i = refl
-put-zero (z ∷ zs) zero = refl
-put-zero (z ∷ zs) (suc i) = put-zero zs i
-
--- the nodes before v are at distance 0
-pub record FlatTo (v : ℕ) (dist : List ℤ) : Type 0 where
-  pub zero : (w : ℕ) → w < v → getD dist w (pos 0) ≡ pos 0
-
-pub flat-next : {v : ℕ} {dist : List ℤ} → FlatTo v dist → FlatTo (v + 1) (set dist v (pos 0))
-flat-next {v} {dist} flat = record {
-  zero = λ w l. ⊎-elim (λ (q : w ≡ v). rw q (put-zero dist v)) (λ n. getD-set-other dist v w (pos 0) (pos 0) n ∙ flat .zero w (omega arith)) (same-or-not w v);
-}
-
 -- ---- every node deepened by what its label lacks
 
 -- the nodes before v are deepened, those from v on are as before
@@ -86,10 +69,10 @@ pub record DeepenedTo (v cells to : ℕ) (label : List ℕ) (dist₀ dist : List
   pub deeper : (w : ℕ) → w < v → w ≤ cells → depth dist w ≡ raised to (depth dist₀) (at label) w
   pub rest : (w : ℕ) → v ≤ w → getD dist w (pos 0) ≡ getD dist₀ w (pos 0)
 
-pub deepened-none : {cells to : ℕ} {label : List ℕ} {dist : List ℤ} → length dist ≡ 128 → Below dist (suc cells) 256000000 → DeepenedTo 0 cells to label dist dist
+pub deepened-none : {cells to : ℕ} {label : List ℕ} {dist : List ℤ} → length dist ≡ 128 → Below dist (suc cells) lowest → DeepenedTo 0 cells to label dist dist
 deepened-none long below = record { long = long; not-above = λ w h. below .not-above w (omega arith); deeper = λ w h. absurd (omega arith); rest = λ w h. refl }
 
-module _ {v cells to : ℕ} {label : List ℕ} {dist₀ dist : List ℤ} (small : (cells ≤ 127) × (to ≤ 1000000)) (below : Below dist₀ (suc cells) 256000000) (done : DeepenedTo v cells to label dist₀ dist) (l : v ≤ cells) where
+module _ {v cells to : ℕ} {label : List ℕ} {dist₀ dist : List ℤ} (small : (cells ≤ 127) × (to ≤ 1000000)) (below : Below dist₀ (suc cells) lowest) (done : DeepenedTo v cells to label dist₀ dist) (l : v ≤ cells) where
   -- whatever is done at v alone and deepens v by what it lacks
   next : {dist′ : List ℤ} → length dist′ ≡ 128 → up (getD dist′ v (pos 0)) ≡ 0 → depth dist′ v ≡ depth dist v + (to - at label v) → ((w : ℕ) → (w ≡ v → ⊥) → getD dist′ w (pos 0) ≡ getD dist w (pos 0)) → DeepenedTo (v + 1) cells to label dist₀ dist′
   unfolding raised
@@ -110,7 +93,7 @@ module _ {v cells to : ℕ} {label : List ℕ} {dist₀ dist : List ℤ} (small 
   low-parts : Dif (getD dist v (pos 0)) (pos (to - at label v)) low
   low-parts = dif (getD dist v (pos 0)) (pos (to - at label v))
 
-  old-within : Within 256000000 (getD dist v (pos 0))
+  old-within : Within lowest (getD dist v (pos 0))
   old-within = rw (done .rest v (omega arith)) (omega (arith, below .not-above v (omega arith), below .upto v (omega arith)))
 
   pub lowered : ReadsAs (rd (getD dist v (pos 0)) -ℤ toZ w64 (to - at label v)) (getD dist v (pos 0) -ℤ pos (to - at label v))
@@ -118,9 +101,9 @@ module _ {v cells to : ℕ} {label : List ℕ} {dist₀ dist : List ℤ} (small 
       minus
       (getD dist v (pos 0))
       (pos (to - at label v))
-      (back (within _ 256000000 (omega arith) old-within))
+      (back (within _ lowest (omega arith) old-within))
       (toZ-pos w64 (omega arith))
-      (within low 257000000 (omega arith) (omega (arith, low-parts, old-within)))
+      (within low (lowest + 1000000) (omega arith) (omega (arith, low-parts, old-within)))
 
   pub deepened-lowered : DeepenedTo (v + 1) cells to label dist₀ (set dist v (rd (rd (getD dist v (pos 0)) -ℤ toZ w64 (to - at label v))))
   deepened-lowered =

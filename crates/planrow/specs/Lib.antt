@@ -16,6 +16,7 @@ pub mod Moves
 pub mod Flags
 pub mod WalkBack
 pub mod Bare
+pub mod Begin
 pub mod Fewer
 pub mod SameDepths
 pub mod Inserting

@@ -1,5 +1,5 @@
 -- The planner's loop over the candidates: after t turns the row stands with its first t candidates, and the chains hold just those, by their flags. It starts
--- on the empty row, level at distance 0, and a turn inserts one candidate more. Assumes nothing.
+-- on the empty row, which steps down at cells without room only, and a turn inserts one candidate more. Assumes nothing.
 use mathlib.Core.Bool.{Bool, true, false}
 use mathlib.Core.List.{List}
 use mathlib.Core.Path.{_≡_, refl, ap}
@@ -10,7 +10,7 @@ use lib.IntN.{ℤ}
 use Rattle.signed.specs.Parts.{up, dn}
 use Rattle.flow.specs.Certificate.{empty-balanced}
 use Rattle.planrow.specs.Fewer.{proper-fewer, below-fewer}
-use Rattle.planrow.specs.State.{at, Flagged, Chained, Links, links, Chains, Flat, Standing, CanPlan, CanInsert}
+use Rattle.planrow.specs.State.{at, Flagged, Chained, Links, links, Chains, Stepped, Standing, CanPlan, CanInsert}
 
 -- after t turns
 pub record Planning (limit : ℕ → ℕ) (count cells t : ℕ) (lo hi : List ℕ) (cost : List ℤ) (kept : List Bool) (room : List ℕ) (dist : List ℤ) (ls : Links) : Type 0 where
@@ -28,12 +28,12 @@ no-chain side kept ends next small = record {
 
 -- `limit` is the room that each cell has at the start
 module _ {cells count : ℕ} {lo hi : List ℕ} {cost : List ℤ} {limit : List ℕ} (p : CanPlan cells count lo hi cost limit) where
-  pub planning-starts : {dist : List ℤ} (kept : List Bool) (next next′ : List ℕ) → Flat cells dist → Planning (at limit) count cells 0 lo hi cost kept limit dist (links (replicate 128 0) next (replicate 128 0) next′)
-  planning-starts kept next next′ flat = record {
+  pub planning-starts : {dist : List ℤ} (kept : List Bool) (next next′ : List ℕ) → Stepped cells limit dist → Planning (at limit) count cells 0 lo hi cost kept limit dist (links (replicate 128 0) next (replicate 128 0) next′)
+  planning-starts kept next next′ stepped = record {
     upto = omega arith;
     standing = record {
-      balanced = empty-balanced (λ j l. refl) (λ v l. ap dn (flat .zero v l));
-      dists = record { not-above = λ v l. ap up (flat .zero v (omega arith)); upto = λ v l. omega (arith, ap dn (flat .zero v (omega arith))) };
+      balanced = empty-balanced (λ j l. refl) (stepped .rises) (stepped .level);
+      dists = record { not-above = λ v l. stepped .not-above v (omega arith); upto = λ v l. omega (arith, stepped .upto v (omega arith)) };
     };
     chains = record { dropped = no-chain false kept (at lo) next (p .cells-upto); held = no-chain true kept (at hi) next′ (p .cells-upto) };
   }

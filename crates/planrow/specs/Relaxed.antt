@@ -14,7 +14,7 @@ use Rattle.sums.specs.Each.{less-or-not}
 use Rattle.flow.specs.Balanced.{Proper}
 use Rattle.flow.specs.Searching.{Ground, Came, Labels}
 use Rattle.flow.specs.SearchSteps.{DeepAt, relaxed, passed}
-use Rattle.planrow.specs.State.{at, Marks, marks, Listed, Relaxation, Lacks, Spreads}
+use Rattle.planrow.specs.State.{at, lowest, Marks, marks, Listed, Relaxation, Lacks, Spreads}
 use Rattle.planrow.specs.OpenList.{listed-room, listed-lower, listed-push}
 
 -- ---- the ways through `relax`
@@ -55,10 +55,10 @@ module _ {cost near far : ℤ} (k : Lacks cost near far) where
   cost-back = back (within cost 1000000 (omega arith) (omega arith))
 
   near-back : rd near ≡ near
-  near-back = back (within near 256000000 (omega arith) (omega arith))
+  near-back = back (within near lowest (omega arith) (omega arith))
 
   far-back : rd far ≡ far
-  far-back = back (within far 256000000 (omega arith) (omega arith))
+  far-back = back (within far lowest (omega arith) (omega arith))
 
   pub read-cost : Lacks (rd cost) near far
   read-cost = rw cost-back k
@@ -66,7 +66,7 @@ module _ {cost near far : ℤ} (k : Lacks cost near far) where
   pub read : Lacks (rd cost) (rd near) (rd far)
   read = rw (cost-back, near-back, far-back) k
 
-  pub measured : (len : ℕ) → len + (dn (rd near) + dn (rd cost)) ≡ dn (rd far) + up (rd cost) → (len + (dn near + dn cost) ≡ dn far + up cost) × (len ≤ 257000000)
+  pub measured : (len : ℕ) → len + (dn (rd near) + dn (rd cost)) ≡ dn (rd far) + up (rd cost) → (len + (dn near + dn cost) ≡ dn far + up cost) × (len ≤ 384000000)
   measured len is = let long : len + (dn near + dn cost) ≡ dn far + up cost = rw (near-back, cost-back, far-back) at is in (long, omega arith)
 
 -- ---- a step of the search

@@ -22,6 +22,10 @@ use Rattle.flow.specs.Raise.{raised}
 abbrev pub depth : List ℤ → ℕ → ℕ
 depth zs i = dn (getD zs i (pos 0))
 
+-- how deep a node can come to lie: 1,000,000 for each of 127 cells without room and for each of 256 candidates
+abbrev pub lowest : ℕ
+lowest = 383000000
+
 -- ---- the row and the ground of a search
 
 abbrev pub rowIn : (ℕ → ℕ) → ℕ → ℕ → List ℕ → List ℕ → List ℤ → Row
@@ -45,7 +49,7 @@ pub record Ready (cells t : ℕ) (lo hi : List ℕ) (cost : List ℤ) (kept : Li
   pub t-upto : t ≤ 256
   pub proper : Proper (bare cells lo hi cost) t
   pub costs : Below cost t 1000000
-  pub dists : Below dist (suc cells) 256000000
+  pub dists : Below dist (suc cells) lowest
   pub deep : Deep (bare cells lo hi cost) t (flag kept) (at room) (depth dist)
 
 -- ---- chains of candidates
@@ -172,9 +176,9 @@ pub record Lacks (cost near far : ℤ) : Type 0 where
   pub cost-high : up cost ≤ 1000000
   pub cost-low : dn cost ≤ 1000000
   pub near-not-above : up near ≡ 0
-  pub near-low : dn near ≤ 256000000
+  pub near-low : dn near ≤ lowest
   pub far-not-above : up far ≡ 0
-  pub far-low : dn far ≤ 256000000
+  pub far-low : dn far ≤ lowest
   pub not-below : dn near + dn cost ≤ dn far + up cost
 
 -- an arc of this cost from u to v is relaxed, with the length that it lacks
@@ -240,18 +244,32 @@ pub record Gains (cost near far : ℤ) : Type 0 where
   pub cost-not-above : up cost ≡ 0
   pub cost-low : dn cost ≤ 1000000
   pub near-not-above : up near ≡ 0
-  pub near-low : dn near ≤ 256000000
+  pub near-low : dn near ≤ lowest
   pub far-not-above : up far ≡ 0
-  pub far-low : dn far ≤ 256000000
+  pub far-low : dn far ≤ lowest
 
--- every node at distance 0
-pub record Flat (cells : ℕ) (dist : List ℤ) : Type 0 where
-  pub zero : (v : ℕ) → v ≤ cells → getD dist v (pos 0) ≡ pos 0
+-- what each candidate costs at least, in depth: no more than 1,000,000
+abbrev pub Fall : ℤ → Type 0
+Fall fall = (up fall ≡ 0) × (dn fall ≤ 1000000)
+
+-- the distance past a cell: that of the node before it, and lower only where the cell has no room
+pub record PastCell (near : ℤ) (room : ℕ) (far : ℤ) : Type 0 where
+  pub not-above : up far ≡ 0
+  pub rises : dn near ≤ dn far
+  pub small : dn far ≤ dn near + 1000000
+  pub level : 0 < room → dn far ≡ dn near
+
+-- the distances before any candidate: the row steps down at cells without room only
+pub record Stepped (cells : ℕ) (room : List ℕ) (dist : List ℤ) : Type 0 where
+  pub not-above : (v : ℕ) → v ≤ cells → up (getD dist v (pos 0)) ≡ 0
+  pub upto : (v : ℕ) → v ≤ cells → depth dist v ≤ 1000000 * v
+  pub rises : (j : ℕ) → j < cells → depth dist j ≤ depth dist (suc j)
+  pub level : (j : ℕ) → j < cells → 0 < at room j → depth dist (suc j) ≤ depth dist j
 
 -- the planner's state after t candidates
 pub record Standing (limit : ℕ → ℕ) (count cells t : ℕ) (lo hi : List ℕ) (cost : List ℤ) (kept : List Bool) (room : List ℕ) (dist : List ℤ) : Type 0 where
   pub balanced : Balanced (rowIn limit count cells lo hi cost) t (flag kept) (at room) (depth dist)
-  pub dists : Below dist (suc cells) (1000000 * t)
+  pub dists : Below dist (suc cells) (1000000 * (cells + t))
 
 -- a row that can be planned: at most 127 cells and 256 candidates, each a real interval, with a cost from −1,000,000 to 0
 pub record CanPlan (cells count : ℕ) (lo hi : List ℕ) (cost : List ℤ) (room : List ℕ) : Type 0 where

@@ -2,7 +2,7 @@
 ghost use mathlib.Core.Path.{_≡_};
 ghost use Prim.Native.Nat.{suc, _+_, _-_, _≤_};
 ghost use Rattle.signed.specs.Parts.{dn};
-ghost use Rattle.planrow.specs.State.{at, Below, links, Chains, Deepened, CanInsert, Standing, Gains, Flat};
+ghost use Rattle.planrow.specs.State.{at, Below, links, Chains, Deepened, CanInsert, Standing, Gains, lowest};
 use crate::chains;
 use crate::search;
 use crate::walk;
@@ -19,22 +19,10 @@ pub fn gain_of(cost: i64, near: i64, far: i64) -> usize
     gain as usize
 }
 
-// Every node at distance 0.
-pub fn level(dist: &mut [i64; 128], cells: usize)
-    requires { ⌜ cells ≤ 127 ⌝ }
-    ensures { λ r. ⌜ Flat cells (now (dist .exit)) ⌝ }
-{
-    let mut v = 0;
-    while v <= cells {
-        dist[v] = 0;
-        v += 1;
-    }
-}
-
 // Lowers the distance of every node whose label is below `to` by what it lacks.
 pub fn deepen(dist: &mut [i64; 128], label: &[usize; 128], cells: usize, to: usize)
     requires { ⌜ (cells ≤ 127) × (to ≤ 1000000) ⌝ }
-    requires { ⌜ Below (now dist) (suc cells) 256000000 ⌝ }
+    requires { ⌜ Below (now dist) (suc cells) lowest ⌝ }
     ensures { λ r. ⌜ Deepened cells to (now (label .entry)) (now (dist .entry)) (now (dist .exit)) ⌝ }
 {
     // the whole array, so that its length is known

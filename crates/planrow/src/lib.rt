@@ -4,6 +4,7 @@ mod arcs;
 mod chains;
 mod insert;
 mod search;
+mod steps;
 mod walk;
 
 ghost use Rattle.planrow.specs.State.{at, CanPlan, Standing};
@@ -34,7 +35,7 @@ pub fn plan_row(
     let mut by = [0usize; 128];
     let mut from = [0usize; 128];
     let mut list = [0usize; 128];
-    insert::level(dist, cells);
+    steps::begin(cells, count, cost, room, dist);
     let mut t = 0;
     while t < count {
         insert::insert(

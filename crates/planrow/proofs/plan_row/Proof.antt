@@ -16,17 +16,17 @@ abbrev μ-loop : tie.MeasureT-loop
 μ-loop cells count lo hi cost kept₀ room₀ dist₀ head-lo₀ next-lo₀ head-hi₀ next-hi₀ label₀ rank₀ by₀ from₀ list₀ t₀ kept room dist head-lo next-lo head-hi next-hi label rank by from list t =
     count - t
 
-level-requires : tie.Need-level-requires Inv-loop μ-loop
-level-requires c κs = c .before .pre .cells-upto
+begin-requires : tie.Need-begin-requires Inv-loop μ-loop
+begin-requires c κs = let p = c .before .before .pre in ((p .cells-upto, p .count-upto), p .costs)
 
 loop-holds : tie.Need-loop-holds Inv-loop μ-loop
-loop-holds c = planning-starts (c .before .before .pre) _ _ _ (c .level .ensures)
+loop-holds c = planning-starts (c .before .before .before .pre) _ _ _ (c .begin .ensures)
 
 -- ---- one turn
 
 -- from the turn to the entry
 abbrev entry : tie.In-loop Inv-loop μ-loop → tie.Start Inv-loop μ-loop
-entry k = k .before .before .before .before
+entry k = k .before .before .before .before .before
 
 -- the turn's candidate can be inserted
 can-insert : (k : tie.In-loop Inv-loop μ-loop) → let a = entry k .args in let l = k .before .loop in
@@ -56,7 +56,7 @@ plan-row-spec =
     (tie.spec
     Inv-loop
     μ-loop
-    level-requires
+    begin-requires
     loop-holds
     insert-requires
     add-t

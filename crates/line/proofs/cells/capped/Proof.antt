@@ -8,6 +8,7 @@ use lib.Signed.{leZ}
 use Rattle.signed.specs.Parts.{up, dn, apart, dif, abs, not-below}
 use Rattle.signed.specs.Tests.{leZ-true, leZ-false}
 use Rattle.signed.specs.Bits.{ReadsAs, rd, taken}
+use Rattle.planrow.specs.State.{lowest}
 use Rattle.line.proofs.cells.capped.Statement.{statement}
 use Rattle.line.proofs.cells.capped.Tie as tie
 
@@ -15,7 +16,7 @@ abbrev gap : tie.Start → ℤ
 gap s = s .args .near -ℤ s .args .far
 
 fall : (s : tie.Start) → ReadsAs (rd (s .args .near) -ℤ rd (s .args .far)) (gap s)
-fall s = taken {b = 256000000} (s .args .near) (s .args .far) (omega arith) (omega arith) (omega arith)
+fall s = taken {b = lowest} (s .args .near) (s .args .far) (omega arith) (omega arith) (omega arith)
 
 -- in parts: what it falls by, and never below 0
 parts : (s : tie.Start) → (dn (gap s) ≡ 0) × (up (gap s) ≡ dn (s .args .far) - dn (s .args .near))

@@ -1,0 +1,54 @@
+-- The distances before any candidate, as far as node j: the loop that lays them goes cell by cell. Assumes nothing.
+use mathlib.Core.List.{List}
+use mathlib.Core.Logic.{⊎-elim}
+use mathlib.Core.Path.{_≡_, ap, _∙_}
+use Prim.Native.Nat.{ℕ, suc, _≤_, _<_}
+use native.Mathlib.Omega.{arith}
+use lib.IntN.{ℤ, pos}
+use lib.ListN.{getD, length, set, length-set}
+use lib.Seq.{getD-set-same, getD-set-other}
+use Rattle.signed.specs.Parts.{up, dn}
+use Rattle.sums.specs.Each.{same-or-not}
+use Rattle.planrow.specs.State.{at, depth, PastCell, Stepped}
+
+-- as far as node j, in an array of 128
+pub record SteppedTo (j : ℕ) (room : List ℕ) (dist : List ℤ) : Type 0 where
+  pub long : length dist ≡ 128
+  pub stepped : Stepped j room dist
+
+-- node 0 is at distance 0
+pub stepped-none : (room : List ℕ) (dist : List ℤ) → length dist ≡ 128 → SteppedTo 0 room (set dist 0 (pos 0))
+stepped-none room dist l = record {
+  long = rw length-set l;
+  stepped = record {
+    not-above = λ v h. ap up (first v h);
+    upto = λ v h. omega (arith, ap dn (first v h));
+    rises = λ j h. absurd (omega arith);
+    level = λ j h. absurd (omega arith);
+  };
+}
+  where
+    first : (v : ℕ) → v ≤ 0 → getD (set dist 0 (pos 0)) v (pos 0) ≡ pos 0
+    first v h = let q : v ≡ 0 = omega arith in rw q (getD-set-same dist 0 (pos 0) (pos 0) (omega arith))
+
+-- one cell more
+module _ {j : ℕ} {room : List ℕ} {dist : List ℤ} {far : ℤ} (was : SteppedTo j room dist) (small : j < 127) (cell : PastCell (getD dist j (pos 0)) (at room j) far) where
+  abbrev next : List ℤ
+  next = set dist (suc j) far
+
+  here : getD next (suc j) (pos 0) ≡ far
+  here = getD-set-same dist (suc j) far (pos 0) (omega (arith, was .long))
+
+  before : (v : ℕ) → v ≤ j → getD next v (pos 0) ≡ getD dist v (pos 0)
+  before v h = getD-set-other dist (suc j) v far (pos 0) (λ q. omega arith)
+
+  pub stepped-more : SteppedTo (suc j) room next
+  stepped-more = record {
+    long = rw length-set (was .long);
+    stepped = record {
+      not-above = λ v h. ⊎-elim (λ (q : v ≡ suc j). rw q (ap up here ∙ cell .not-above)) (λ n. ap up (before v (omega arith)) ∙ was .stepped .not-above v (omega arith)) (same-or-not v (suc j));
+      upto = λ v h. ⊎-elim (λ (q : v ≡ suc j). rw q (omega (arith, ap dn here, cell .small, was .stepped .upto j (omega arith)))) (λ n. omega (arith, ap dn (before v (omega arith)), was .stepped .upto v (omega arith))) (same-or-not v (suc j));
+      rises = λ i h. ⊎-elim (λ (q : i ≡ j). rw q (omega (arith, ap dn here, ap dn (before j (omega arith)), cell .rises))) (λ n. omega (arith, ap dn (before i (omega arith)), ap dn (before (suc i) (omega arith)), was .stepped .rises i (omega arith))) (same-or-not i j);
+      level = λ i h r. ⊎-elim (λ (q : i ≡ j). rw q (omega (arith, ap dn here, ap dn (before j (omega arith)), cell .level (rw q at r)))) (λ n. omega (arith, ap dn (before i (omega arith)), ap dn (before (suc i) (omega arith)), was .stepped .level i (omega arith) r)) (same-or-not i j);
+    };
+  }
