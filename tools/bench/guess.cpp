@@ -125,25 +125,59 @@ size_t surplus_all(size_t count, const size_t *lo, const size_t *hi, const size_
     return top;
 }
 
+size_t due(size_t limit, size_t price) { return 1000 < limit || beyond < price ? 0 : limit * price; }
+
+size_t due_all(size_t cells, const size_t *limits, const size_t *tolls)
+{
+    size_t sum = 0;
+    for (size_t j = 0; j < cells; j++) sum = more(sum, due(limits[j], less(tolls[j + 1], tolls[j])));
+    return sum;
+}
+
+size_t bid_above(size_t count, const size_t *lo, const size_t *hi, const size_t *bids, const size_t *tolls)
+{
+    size_t sum = 0;
+    for (size_t i = 0; i < count; i++)
+        if (lo[i] < 64 && hi[i] < 64) sum = more(sum, less(bids[i], less(tolls[hi[i]], tolls[lo[i]])));
+    return sum;
+}
+
 size_t first_step(size_t bids, size_t length) { return length == 0 || beyond < bids ? 0 : 2 * bids / length; }
 
-size_t at_prices(size_t cells, size_t count, const size_t *limits, const size_t *lo, const size_t *hi, const size_t *profit, size_t length, size_t off, size_t slack, size_t *worths)
+// The prices' ceiling.
+size_t ceiling_at(size_t cells, size_t count, const size_t *limits, const size_t *lo, const size_t *hi, const size_t *bids, const size_t *tolls)
+{
+    return more(due_all(cells, limits, tolls), bid_above(count, lo, hi, bids, tolls)) / 64;
+}
+
+Guess at_settled(size_t cells, size_t count, const size_t *limits, const size_t *lo, const size_t *hi, const size_t *bids, size_t slack, size_t *rates, size_t *worths)
+{
+    size_t tolls[64] = {};
+    settle(cells, count, limits, lo, hi, bids, rates, tolls);
+    size_t ceiling = ceiling_at(cells, count, limits, lo, hi, bids, tolls);
+    return {surplus_all(count, lo, hi, bids, tolls, slack, worths), ceiling};
+}
+
+Guess at_prices(size_t cells, size_t count, const size_t *limits, const size_t *lo, const size_t *hi, const size_t *profit, size_t length, size_t off, size_t slack, size_t *worths)
 {
     size_t bids[256] = {}, begins[64] = {}, ends[64] = {}, rates[64] = {}, tolls[64] = {};
     size_t sum = bid_all(count, profit, off, bids);
     ask(count, lo, hi, bids, tolls, begins, ends);
-    if (rate_all(cells, count, limits, begins, ends, first_step(sum, length), rates) < 8) return 0;
-    settle(cells, count, limits, lo, hi, bids, rates, tolls);
-    return surplus_all(count, lo, hi, bids, tolls, slack, worths);
+    if (rate_all(cells, count, limits, begins, ends, first_step(sum, length), rates) < 8) return {0, 0};
+    return at_settled(cells, count, limits, lo, hi, bids, slack, rates, worths);
 }
+
+// Whether a ceiling can be compared with what an order brings.
+bool comparable(size_t cells, const size_t *limits, size_t off) { return off == 0 && 6 * cells <= total(cells, limits); }
 }  // namespace
 
-size_t weigh(size_t cells, size_t count, const size_t *limits, const size_t *lo, const size_t *hi, const size_t *profit, size_t least, size_t greatest, size_t *worths)
+Guess weigh(size_t cells, size_t count, const size_t *limits, const size_t *lo, const size_t *hi, const size_t *profit, size_t least, size_t greatest, size_t *worths)
 {
-    if (64 <= cells || least == greatest) return 0;
+    if (64 <= cells || least == greatest) return {0, 0};
     size_t length = asked(count, lo, hi);
-    if (!middling(count, length) || !contested(cells, count, limits, length)) return 0;
+    if (!middling(count, length) || !contested(cells, count, limits, length)) return {0, 0};
     size_t off = flat_part(least, greatest);
-    return at_prices(cells, count, limits, lo, hi, profit, length, off, bid(greatest, off) / 2, worths);
+    Guess guess = at_prices(cells, count, limits, lo, hi, profit, length, off, bid(greatest, off) / 2, worths);
+    return {guess.top, comparable(cells, limits, off) ? guess.ceiling : 0};
 }
 }  // namespace plain::order::guess

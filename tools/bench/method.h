@@ -30,7 +30,11 @@ struct Extremes {
 Extremes range(size_t count, const size_t *list);
 // guess.cpp
 namespace guess {
-size_t weigh(size_t cells, size_t count, const size_t *limits, const size_t *lo, const size_t *hi, const size_t *profit, size_t least, size_t greatest, size_t *worths);
+// The greatest worth, 0 where none was made, and the prices' ceiling, 0 where it says nothing.
+struct Guess {
+    size_t top, ceiling;
+};
+Guess weigh(size_t cells, size_t count, const size_t *limits, const size_t *lo, const size_t *hi, const size_t *profit, size_t least, size_t greatest, size_t *worths);
 }
 void ordered(size_t cells, size_t count, const size_t *limits, const size_t *lo, const size_t *hi, const size_t *profit, size_t *order, size_t *place);
 }

@@ -1,6 +1,7 @@
 // What an order brings by room alone: each request in its turn is kept where every span has room left, and nothing gives way. Of two orders the one that brings
 // more so leaves less to search for. Nothing is promised but safety.
 ghost use Prim.Native.Nat.{_≤_, _<_};
+use crate::guess;
 
 // What request r brings: its profit where it fits, and then it takes its room.
 fn brought(
@@ -53,7 +54,8 @@ fn filled(
     sum
 }
 
-// The other order in place of this one, where it brings more or hardly less.
+// The other order, by prices with this ceiling, in place of this one, where it brings more or hardly less. Prices whose ceiling lies far above what their order
+// brings are bad ones: no plan earns more than the ceiling, and good prices' order comes near it.
 pub fn take_better(
     cells: usize,
     count: usize,
@@ -62,12 +64,16 @@ pub fn take_better(
     hi: &[usize; 256],
     profit: &[usize; 256],
     other: &[usize; 256],
+    ceiling: usize,
     order: &mut [usize; 256],
 )
     requires { ⌜ (cells < 64) × (count ≤ 256) ⌝ }
 {
-    let old = filled(cells, count, limits, lo, hi, profit, order);
     let new = filled(cells, count, limits, lo, hi, profit, other);
+    if new / 7 < guess::less(ceiling, new) {
+        return;
+    }
+    let old = filled(cells, count, limits, lo, hi, profit, order);
     if old - old / 64 <= new {
         lists::copy(count, other, order);
     }

@@ -5,8 +5,14 @@ ghost use Prim.Native.Nat.{_≤_, _<_};
 ghost use lib.ListN.{length};
 use crate::worth;
 
+// The greatest worth of a request at guessed prices, and the prices' ceiling; 0 for a worth that was not made, and for a ceiling that says nothing.
+pub struct Guess {
+    pub top: usize,
+    pub ceiling: usize,
+}
+
 // x less y, and never below 0.
-fn less(x: usize, y: usize) -> usize {
+pub fn less(x: usize, y: usize) -> usize {
     if x < y {
         return 0;
     }
@@ -310,6 +316,55 @@ fn surplus_all(
     top
 }
 
+// What a span's channels cost together.
+fn due(limit: usize, price: usize) -> usize {
+    if 1000 < limit {
+        return 0;
+    }
+    if 1099511627776 < price {
+        return 0;
+    }
+    limit * price
+}
+
+// What all channels cost.
+fn due_all(cells: usize, limits: &[usize; 64], tolls: &[usize; 64]) -> usize
+    requires { ⌜ cells < 64 ⌝ }
+{
+    let mut sum = 0;
+    let mut j = 0;
+    while j < cells {
+        sum = more(sum, due(limits[j], less(tolls[j + 1], tolls[j])));
+        j += 1;
+    }
+    sum
+}
+
+// What the requests bid above the tolls on their way.
+fn bid_above(
+    count: usize,
+    lo: &[usize; 256],
+    hi: &[usize; 256],
+    bids: &[usize; 256],
+    tolls: &[usize; 64],
+) -> usize
+    requires { ⌜ count ≤ 256 ⌝ }
+{
+    let mut sum = 0;
+    let mut i = 0;
+    while i < count {
+        let a = lo[i];
+        let b = hi[i];
+        if a < 64 {
+            if b < 64 {
+                sum = more(sum, less(bids[i], less(tolls[b], tolls[a])));
+            }
+        }
+        i += 1;
+    }
+    sum
+}
+
 // What a price moves by at first: twice what a span brings on average.
 fn first_step(bids: usize, length: usize) -> usize {
     if length == 0 {
@@ -321,7 +376,45 @@ fn first_step(bids: usize, length: usize) -> usize {
     2 * bids / length
 }
 
-// The worth of each request at guessed prices, and the greatest; 0 where fewer than eight spans are asked for too often.
+// The prices' ceiling: what all channels cost, and what the requests bid above that on their way.
+fn ceiling_at(
+    cells: usize,
+    count: usize,
+    limits: &[usize; 64],
+    lo: &[usize; 256],
+    hi: &[usize; 256],
+    bids: &[usize; 256],
+    tolls: &[usize; 64],
+) -> usize
+    requires { ⌜ (cells < 64) × (count ≤ 256) ⌝ }
+{
+    let paid = due_all(cells, limits, tolls);
+    let above = bid_above(count, lo, hi, bids, tolls);
+    more(paid, above) / 64
+}
+
+// The worth of each request at the prices that the rounds come to, the greatest, and their ceiling.
+fn at_settled(
+    cells: usize,
+    count: usize,
+    limits: &[usize; 64],
+    lo: &[usize; 256],
+    hi: &[usize; 256],
+    bids: &[usize; 256],
+    slack: usize,
+    rates: &mut [usize; 64],
+    worths: &mut [usize; 256],
+) -> Guess
+    requires { ⌜ (cells < 64) × (count ≤ 256) ⌝ }
+{
+    let mut tolls = [0usize; 64];
+    settle(cells, count, limits, lo, hi, bids, rates, &mut tolls);
+    let ceiling = ceiling_at(cells, count, limits, lo, hi, bids, &tolls);
+    let top = surplus_all(count, lo, hi, bids, &tolls, slack, worths);
+    Guess { top, ceiling }
+}
+
+// The worth of each request at guessed prices, the greatest, and the prices' ceiling; nothing where fewer than eight spans are asked for too often.
 fn at_prices(
     cells: usize,
     count: usize,
@@ -333,26 +426,46 @@ fn at_prices(
     off: usize,
     slack: usize,
     worths: &mut [usize; 256],
-) -> usize
+) -> Guess
     requires { ⌜ (cells < 64) × (count ≤ 256) ⌝ }
 {
     let mut bids = [0usize; 256];
     let mut begins = [0usize; 64];
     let mut ends = [0usize; 64];
     let mut rates = [0usize; 64];
-    let mut tolls = [0usize; 64];
+    let tolls = [0usize; 64];
     let sum = bid_all(count, profit, off, &mut bids);
     ask(count, lo, hi, &bids, &tolls, &mut begins, &mut ends);
     let unit = first_step(sum, length);
     let over = rate_all(cells, count, limits, &begins, &ends, unit, &mut rates);
     if over < 8 {
-        return 0;
+        return Guess { top: 0, ceiling: 0 };
     }
-    settle(cells, count, limits, lo, hi, &bids, &mut rates, &mut tolls);
-    surplus_all(count, lo, hi, &bids, &tolls, slack, worths)
+    at_settled(
+        cells,
+        count,
+        limits,
+        lo,
+        hi,
+        &bids,
+        slack,
+        &mut rates,
+        worths,
+    )
 }
 
-// The same for any row; 0 where it is not worth guessing.
+// Whether a ceiling can be compared with what an order brings: bids are whole profits, and spans have six channels or more on average. With fewer, filling by
+// room alone leaves too much.
+fn comparable(cells: usize, limits: &[usize; 64], off: usize) -> bool
+    requires { ⌜ cells < 64 ⌝ }
+{
+    if 0 < off {
+        return false;
+    }
+    6 * cells <= total(cells, limits)
+}
+
+// The same for any row; nothing where it is not worth guessing.
 pub fn weigh(
     cells: usize,
     count: usize,
@@ -363,25 +476,26 @@ pub fn weigh(
     least: usize,
     greatest: usize,
     worths: &mut [usize; 256],
-) -> usize
+) -> Guess
     requires { ⌜ count ≤ 256 ⌝ }
 {
+    let none = Guess { top: 0, ceiling: 0 };
     if 64 <= cells {
-        return 0;
+        return none;
     }
     if least == greatest {
-        return 0;
+        return none;
     }
     let length = asked(count, lo, hi);
     if !middling(count, length) {
-        return 0;
+        return none;
     }
     if !contested(cells, count, limits, length) {
-        return 0;
+        return none;
     }
     let off = flat_part(least, greatest);
     let slack = bid(greatest, off) / 2;
-    at_prices(
+    let guess = at_prices(
         cells,
         count,
         limits,
@@ -392,5 +506,12 @@ pub fn weigh(
         off,
         slack,
         worths,
-    )
+    );
+    if comparable(cells, limits, off) {
+        return guess;
+    }
+    Guess {
+        top: guess.top,
+        ceiling: 0,
+    }
 }
