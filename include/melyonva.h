@@ -7,7 +7,7 @@
  * lists that are written, writable) during the call, and the three byte lists do not overlap. A NULL pointer with length 0 is an empty list and safe.
  * melyonva_plan_checked() and melyonva_check_checked() below test for NULL with a length and for overlap before they call.
  *
- * A call needs about 84 KiB of stack (83,992 bytes were used by a plan of the largest books, 55,000 by a check).
+ * A call needs about 83 KiB of stack (84,504 bytes were used by a plan of the largest books, 55,000 by a check).
  */
 #ifndef MELYONVA_H
 #define MELYONVA_H

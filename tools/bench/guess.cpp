@@ -8,6 +8,8 @@ const size_t beyond = 1099511627776;  // anything that a book gives
 size_t less(size_t x, size_t y) { return x < y ? 0 : x - y; }
 size_t more(size_t x, size_t y) { return beyond < x || beyond < y ? x : x + y; }
 
+size_t times(size_t number, size_t sum) { return 1000 < number || beyond < sum ? 0 : number * sum; }
+
 size_t total(size_t count, const size_t *list)
 {
     size_t sum = 0;
@@ -82,11 +84,9 @@ size_t rate_all(size_t cells, size_t count, const size_t *limits, const size_t *
     return over;
 }
 
-size_t step(size_t apart, size_t rate) { return 1000 < apart || beyond < rate ? 0 : apart * rate; }
-
 size_t moved(size_t price, size_t load, size_t limit, size_t rate)
 {
-    return limit < load ? more(price, step(load - limit, rate)) : less(price, step(limit - load, rate));
+    return limit < load ? more(price, times(load - limit, rate)) : less(price, times(limit - load, rate));
 }
 
 size_t slower(size_t rate) { return beyond < rate ? 0 : rate * 225 / 256; }
@@ -125,12 +125,10 @@ size_t surplus_all(size_t count, const size_t *lo, const size_t *hi, const size_
     return top;
 }
 
-size_t due(size_t limit, size_t price) { return 1000 < limit || beyond < price ? 0 : limit * price; }
-
 size_t due_all(size_t cells, const size_t *limits, const size_t *tolls)
 {
     size_t sum = 0;
-    for (size_t j = 0; j < cells; j++) sum = more(sum, due(limits[j], less(tolls[j + 1], tolls[j])));
+    for (size_t j = 0; j < cells; j++) sum = more(sum, times(limits[j], less(tolls[j + 1], tolls[j])));
     return sum;
 }
 

@@ -8,7 +8,7 @@ use mathlib.Core.Logic.{⊎-elim}
 use Prim.Native.Nat.{ℕ, _≤_, _<_}
 use native.Mathlib.Omega.{arith}
 use borrow.Author.Tests.{ltb-true, ltb-false, lt-ltb, le-ltb}
-use Rattle.sums.specs.Each.{Sought, sought, first-is, decided, less-or-not, of-yes}
+use Rattle.sums.specs.Each.{Sought, sought, first-is, less-or-not, of-yes, fails}
 use Rattle.book.specs.Book.{Book}
 use Rattle.book.specs.Refusals.{records, spansIn, broken, fault, faulty}
 use Rattle.book.specs.Reading.{done, refused, due, bookOf, faultyRecord, reading}
@@ -47,7 +47,7 @@ pub unbroken : (f : List ℕ) (r : ℕ) → faulty f r ≡ false → (m : ℕ) �
 unbroken f r e m h = lowest f r .passed m (omega arith) (omega (arith, ltb-false (fault f r) 12 e))
 
 pub faultless : (f : List ℕ) (r : ℕ) → ((m : ℕ) → m < 12 → broken f r m ≡ false) → faulty f r ≡ false
-faultless f r none = ⊎-elim (λ e. absurd (clash (ltb-true (fault f r) 12 e))) (λ e. e) (decided (faulty f r))
+faultless f r none = fails (λ e. clash (ltb-true (fault f r) 12 e))
   where
     clash : fault f r < 12 → ⊥
     clash h = of-yes (sym (none (fault f r) h) ∙ lowest f r .passes (omega arith))

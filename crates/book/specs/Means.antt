@@ -6,7 +6,7 @@ use mathlib.Core.Logic.{_↔_, _⊎_, inl, inr, ⊎-elim, Iff·trans}
 use Prim.Native.Nat.{ℕ, _≤_, _<_}
 use borrow.Author.Tests.{ltb-true, ltb-false, leb-true, eqb-true, lt-ltb, le-ltb, le-leb, eq-eqb, not-true}
 use lib.Dec.{ltb, leb, eqb}
-use Rattle.sums.specs.Each.{each, each-at, each-breaks, both, left-of, right-of, either, or-left, or-right, decided, of-yes}
+use Rattle.sums.specs.Each.{each, each-at, each-breaks, both, left-of, right-of, either, or-left, or-right, fails, of-yes}
 
 -- ---- comparisons
 
@@ -23,10 +23,6 @@ pub not-less : {a b : ℕ} → not (ltb a b) ≡ true ↔ b ≤ a
 not-less {a} {b} = (λ e. ltb-false a b (not-true (ltb a b) e), λ h. rw (le-ltb a b h))
 
 -- ---- not
-
--- a test that cannot pass fails
-fails : {t : Bool} → (t ≡ true → ⊥) → t ≡ false
-fails {t} h = ⊎-elim (λ e. absurd (h e)) (λ e. e) (decided t)
 
 -- a test that fails means that the fact is not so
 pub not-so : {t : Bool} {P : Type 0} → t ≡ true ↔ P → t ≡ false ↔ (P → ⊥)

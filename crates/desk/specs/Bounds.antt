@@ -26,6 +26,7 @@ use Rattle.rules.specs.Operations.{placesShort, tooShort, tooDear, checking, ch
 use Rattle.rings.specs.Ring.{Ring}
 use Rattle.rings.specs.CutLine.{ring-spans}
 use Rattle.rings.specs.Choice.{cut-in}
+use Rattle.planner.specs.Cases.{spans-small}
 use Rattle.planner.specs.Held.{line-shown, ring-shown}
 
 -- a number and a place that a refusal carries
@@ -38,14 +39,6 @@ pub record SmallPlan (earned number cut : ℕ) : Type 0 where
   pub earned-upto : earned ≤ 256000000
   pub number-upto : number ≤ 256
   pub cut-upto : cut ≤ 65535
-
-pub spans-small : (shape nodes : ℕ) → spansOf shape nodes ≤ nodes
-unfolding spansOf
-spans-small shape nodes = by (eqb shape 2)
-  where
-    by : (t : Bool) → cond t nodes (nodes - 1) ≤ nodes
-    by true = omega arith
-    by false = omega arith
 
 given-small : {file : List ℕ} {number place : ℕ} → Given file number place → SmallRefusal number place
 unfolding due records spansIn

@@ -16,10 +16,10 @@ use Rattle.reader.specs.declared.Refusal.{Refusal}
 use Rattle.planner.specs.declared.Answer.the-variants.{Planned, Refused}
 use Rattle.planner.specs.declared.BookPlan.{BookPlan}
 use Rattle.planner.specs.Promise.{PlanOf, BookPlanned}
-use Rattle.planner.specs.Cases.{is-refused, is-planned, plan-holds}
+use Rattle.planner.specs.Cases.{spans-small, is-refused, is-planned, plan-holds}
 use Rattle.desk.specs.Packing.{packedRefusal, packedPlan}
 use Rattle.desk.specs.Promise.{EntriesWritten, PricesWritten, Handed, PlanAnswer}
-use Rattle.desk.specs.Bounds.{SmallRefusal, SmallPlan, LongEnough, spans-small, refusal-small, plan-small, long-enough}
+use Rattle.desk.specs.Bounds.{SmallRefusal, SmallPlan, LongEnough, refusal-small, plan-small, long-enough}
 use Rattle.desk.specs.Writing.{Fit}
 
 answer-refused :

@@ -3,11 +3,10 @@
 -- duality of prices. Assumes nothing.
 use mathlib.Core.Path.{_≡_, ap}
 use mathlib.Core.Bool.{Bool, true, false}
-use mathlib.Core.Logic.{⊎-elim}
 use Prim.Native.Nat.{ℕ, _+_, _*_, _-_, _≤_, _<_}
 use native.Mathlib.Omega.{arith}
 use borrow.Author.Tests.{eqb-true, eq-eqb}
-use Rattle.sums.specs.Each.{both, left-of, right-of, decided}
+use Rattle.sums.specs.Each.{both, left-of, right-of, fails}
 use Rattle.sums.specs.Sums.{Σ, when, Σ-ext}
 use Rattle.book.specs.Book.{Book, spans, limit, count, profit}
 use Rattle.rules.specs.Plans.{Plan, kept, earnings, obeys, Best}
@@ -60,4 +59,4 @@ module _ {book : Book} (on : Line book) where
       reached = omega (arith, yes-earns accepted prices e, b .most accepted (yes-obeys accepted prices e), no-plan-above plan prices (b .fair))
 
   pub no-for-others : (plan : Plan) (prices : Prices) → (Best book plan → ⊥) → verdict book plan prices ≡ false
-  no-for-others plan prices n = ⊎-elim (λ e. absurd (n (yes-best plan prices e))) (λ e. e) (decided (verdict book plan prices))
+  no-for-others plan prices n = fails (λ e. n (yes-best plan prices e))

@@ -30,6 +30,17 @@ fn more(x: usize, y: usize) -> usize {
     x + y
 }
 
+// A sum so many times, unless one of the two is beyond anything that a book gives.
+fn times(number: usize, sum: usize) -> usize {
+    if 1000 < number {
+        return 0;
+    }
+    if 1099511627776 < sum {
+        return 0;
+    }
+    number * sum
+}
+
 // The sum of the first `count` numbers.
 fn total(count: usize, list: &[usize]) -> usize
     requires { ⌜ count ≤ length (now list) ⌝ }
@@ -203,23 +214,12 @@ fn rate_all(
     over
 }
 
-// How far a price moves for so many requests too many, or too few.
-fn step(apart: usize, rate: usize) -> usize {
-    if 1000 < apart {
-        return 0;
-    }
-    if 1099511627776 < rate {
-        return 0;
-    }
-    apart * rate
-}
-
-// A price after a round.
+// A price after a round: it moves by its rate for each request too many, or too few.
 fn moved(price: usize, load: usize, limit: usize, rate: usize) -> usize {
     if limit < load {
-        return more(price, step(load - limit, rate));
+        return more(price, times(load - limit, rate));
     }
-    less(price, step(limit - load, rate))
+    less(price, times(limit - load, rate))
 }
 
 // The rate of the next round.
@@ -316,17 +316,6 @@ fn surplus_all(
     top
 }
 
-// What a span's channels cost together.
-fn due(limit: usize, price: usize) -> usize {
-    if 1000 < limit {
-        return 0;
-    }
-    if 1099511627776 < price {
-        return 0;
-    }
-    limit * price
-}
-
 // What all channels cost.
 fn due_all(cells: usize, limits: &[usize; 64], tolls: &[usize; 64]) -> usize
     requires { ⌜ cells < 64 ⌝ }
@@ -334,7 +323,7 @@ fn due_all(cells: usize, limits: &[usize; 64], tolls: &[usize; 64]) -> usize
     let mut sum = 0;
     let mut j = 0;
     while j < cells {
-        sum = more(sum, due(limits[j], less(tolls[j + 1], tolls[j])));
+        sum = more(sum, times(limits[j], less(tolls[j + 1], tolls[j])));
         j += 1;
     }
     sum

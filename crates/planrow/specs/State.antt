@@ -248,7 +248,7 @@ pub record Gains (cost near far : ℤ) : Type 0 where
   pub far-not-above : up far ≡ 0
   pub far-low : dn far ≤ lowest
 
--- what each candidate costs at least, in depth: no more than 1,000,000
+-- a cost: from −1,000,000 to 0
 abbrev pub Fall : ℤ → Type 0
 Fall fall = (up fall ≡ 0) × (dn fall ≤ 1000000)
 

@@ -7,7 +7,7 @@ use Prim.Native.Nat.{ℕ, _+_, _*_, _<_}
 use native.Mathlib.Omega.{arith}
 use borrow.Author.Tests.{eqb-true, eq-eqb}
 use lib.Dec.{eqb}
-use Rattle.sums.specs.Each.{each-at, each-of, decided, of-yes, same-or-not}
+use Rattle.sums.specs.Each.{each-at, each-of, decided, of-yes, same-or-not, fails}
 use Rattle.book.specs.Bytes.{byte, two, four, blank}
 
 pub all-blank : (f : List ℕ) (at n : ℕ) → ((i : ℕ) → i < n → byte f (at + i) ≡ 0) → blank f at n ≡ true
@@ -16,8 +16,7 @@ all-blank f at n h = each-of n (λ i. eqb (byte f (at + i)) 0) (λ i l. eq-eqb _
 
 pub not-blank : (f : List ℕ) (at n i : ℕ) → i < n → (byte f (at + i) ≡ 0 → ⊥) → blank f at n ≡ false
 unfolding blank
-not-blank f at n i l h =
-    ⊎-elim (λ e. absurd (h (eqb-true _ 0 (each-at n (λ i. eqb (byte f (at + i)) 0) e i l)))) (λ e. e) (decided (blank f at n))
+not-blank f at n i l h = fails (λ e. h (eqb-true _ 0 (each-at n (λ i. eqb (byte f (at + i)) 0) e i l)))
 
 -- four bytes are all 0 exactly if their number is
 module _ (f : List ℕ) (at : ℕ) where

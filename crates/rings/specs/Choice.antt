@@ -6,7 +6,7 @@ use Prim.Native.Nat.{ℕ, _≤_, _<_}
 use native.Mathlib.Omega.{arith}
 use borrow.Author.Tests.{leb-true, leb-false, le-leb}
 use lib.Dec.{leb}
-use Rattle.sums.specs.Each.{each, each-at, each-of, each-breaks, Sought, sought, first-is, less-or-not, decided, of-yes}
+use Rattle.sums.specs.Each.{each, each-at, each-of, each-breaks, Sought, sought, first-is, less-or-not, of-yes, fails}
 use Rattle.sums.specs.Greatest.{greatest}
 use Rattle.book.specs.Book.{Book, spans}
 use Rattle.rules.specs.Cuts.{cutBest, cut}
@@ -54,4 +54,4 @@ module _ {book : Book} (on : Ring book) where
   cut-once j c = first-is (spans book) (tops book) j (record { from = omega arith; upto = omega (arith, c .in-ring); passed = λ i l h. lower i h; passes = λ h. tops-of book j (c .greatest-there) })
     where
       lower : (i : ℕ) → i < j → tops book i ≡ false
-      lower i h = ⊎-elim (λ e. absurd (omega (arith, tops-at book i e j (c .in-ring), c .lowest i h))) (λ e. e) (decided (tops book i))
+      lower i h = fails (λ e. omega (arith, tops-at book i e j (c .in-ring), c .lowest i h))

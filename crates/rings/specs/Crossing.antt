@@ -7,7 +7,7 @@ use Prim.Native.Nat.{ℕ, _+_, _≤_, _<_}
 use native.Mathlib.Omega.{arith}
 use borrow.Author.Tests.{lt-ltb, le-ltb, eqb-true}
 use lib.Dec.{leb, ltb}
-use Rattle.sums.specs.Each.{less-or-not, decided}
+use Rattle.sums.specs.Each.{less-or-not, decided, fails}
 use Rattle.book.specs.Means.{less, at-most, and, or}
 use Rattle.book.specs.Book.{Book, spans, count, endA, endB}
 use Rattle.rules.specs.Ways.{upward, crosses, wayExists, lineWay}
@@ -40,9 +40,6 @@ is-upward u v s (inr w) = ap (λ t. cond t (leb u s && ltb s v) (leb u s || ltb 
 -- two tests that pass together are the same
 same-test : {s t : Bool} → (s ≡ true → t ≡ true) → (t ≡ true → s ≡ true) → s ≡ t
 same-test {s} {t} f g = ⊎-elim (λ e. e ∙ sym (f e)) (λ e. ⊎-elim (λ h. g h ∙ sym h) (λ h. e ∙ sym h) (decided t)) (decided s)
-
-fails : {t : Bool} → (t ≡ true → ⊥) → t ≡ false
-fails {t} h = ⊎-elim (λ e. absurd (h e)) (λ e. e) (decided t)
 
 -- ---- going up the ring and up the line, by places p, q and r of u, v and s
 

@@ -65,6 +65,10 @@ pub decided : (t : Bool) → (t ≡ true) ⊎ (t ≡ false)
 decided true = inl refl
 decided false = inr refl
 
+-- a test that cannot pass fails
+pub fails : {t : Bool} → (t ≡ true → ⊥) → t ≡ false
+fails {t} h = ⊎-elim (λ e. absurd (h e)) (λ e. e) (decided t)
+
 -- two numbers compared
 pub less-or-not : (a b : ℕ) → (a < b) ⊎ (b ≤ a)
 less-or-not a b = ⊎-elim (λ e. inl (ltb-true a b e)) (λ e. inr (ltb-false a b e)) (decided (ltb a b))

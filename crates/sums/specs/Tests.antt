@@ -2,9 +2,8 @@
 -- where both pass. Assumes nothing.
 use mathlib.Core.Path.{_≡_, refl, sym}
 use mathlib.Core.Bool.{Bool, true, false, not, _&&_, _||_}
-use mathlib.Core.Logic.{⊎-elim}
 use Prim.Native.Nat.{ℕ}
-use Rattle.sums.specs.Each.{some, some-at, decided, of-yes, left-of, right-of}
+use Rattle.sums.specs.Each.{some, some-at, of-yes, left-of, right-of, fails}
 
 pub implied : (s t : Bool) → (not s || t) ≡ true → s ≡ true → t ≡ true
 implied true t e h = e
@@ -43,4 +42,4 @@ when-so false e = refl
 -- a test that is the same for every number
 pub some-and : (n : ℕ) (t : Bool) (f : ℕ → Bool) → some n (λ i. t && f i) ≡ (t && some n f)
 some-and n true f = refl
-some-and n false f = ⊎-elim (λ e. absurd (of-yes (some-at n (λ i. false) e .2))) (λ e. e) (decided (some n (λ i. false)))
+some-and n false f = fails (λ e. of-yes (some-at n (λ i. false) e .2))
