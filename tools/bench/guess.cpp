@@ -1,4 +1,4 @@
-// crates/order's guess of prices in plain C++.
+// crates/proposal's guess of prices in plain C++.
 #include "method.h"
 
 namespace plain::order::guess {
