@@ -53,12 +53,21 @@ size_t bid_all(size_t count, const size_t *profit, size_t off, size_t *bids)
     return sum;
 }
 
+// What the spans between two nodes cost.
+size_t fare(size_t a, size_t b, const size_t *tolls) { return a < 64 && b < 64 ? less(tolls[b], tolls[a]) : 0; }
+
+void count_at(size_t node, size_t *counts)
+{
+    if (node < 64) counts[node] = more(counts[node], 1);
+}
+
 // At which nodes those begin and end that bid more than the spans between cost.
 void ask(size_t count, const size_t *lo, const size_t *hi, const size_t *bids, const size_t *tolls, size_t *begins, size_t *ends)
 {
     for (size_t i = 0; i < count; i++) {
-        size_t a = lo[i], b = hi[i];
-        if (a < 64 && b < 64 && less(tolls[b], tolls[a]) < bids[i]) begins[a] = more(begins[a], 1), ends[b] = more(ends[b], 1);
+        if (bids[i] <= fare(lo[i], hi[i], tolls)) continue;
+        count_at(lo[i], begins);
+        count_at(hi[i], ends);
     }
 }
 
@@ -112,14 +121,13 @@ void settle(size_t cells, size_t count, const size_t *limits, const size_t *lo, 
     }
 }
 
-size_t surplus(size_t bid, size_t below, size_t above, size_t slack) { return less(more(bid, slack), less(above, below)) / 64; }
+size_t surplus(size_t bid, size_t fare, size_t slack) { return less(more(bid, slack), fare) / 64; }
 
 size_t surplus_all(size_t count, const size_t *lo, const size_t *hi, const size_t *bids, const size_t *tolls, size_t slack, size_t *worths)
 {
     size_t top = 0;
     for (size_t i = 0; i < count; i++) {
-        if (64 <= lo[i] || 64 <= hi[i]) continue;
-        worths[i] = surplus(bids[i], tolls[lo[i]], tolls[hi[i]], slack);
+        worths[i] = surplus(bids[i], fare(lo[i], hi[i], tolls), slack);
         if (top < worths[i]) top = worths[i];
     }
     return top;
@@ -135,8 +143,7 @@ size_t due_all(size_t cells, const size_t *limits, const size_t *tolls)
 size_t bid_above(size_t count, const size_t *lo, const size_t *hi, const size_t *bids, const size_t *tolls)
 {
     size_t sum = 0;
-    for (size_t i = 0; i < count; i++)
-        if (lo[i] < 64 && hi[i] < 64) sum = more(sum, less(bids[i], less(tolls[hi[i]], tolls[lo[i]])));
+    for (size_t i = 0; i < count; i++) sum = more(sum, less(bids[i], fare(lo[i], hi[i], tolls)));
     return sum;
 }
 

@@ -66,7 +66,7 @@ module _ {cost near far : ℤ} (k : Lacks cost near far) where
   pub read : Lacks (rd cost) (rd near) (rd far)
   read = rw (cost-back, near-back, far-back) k
 
-  pub measured : (len : ℕ) → len + (dn (rd near) + dn (rd cost)) ≡ dn (rd far) + up (rd cost) → (len + (dn near + dn cost) ≡ dn far + up cost) × (len ≤ 384000000)
+  pub measured : (len : ℕ) → len + (dn (rd near) + dn (rd cost)) ≡ dn (rd far) + up (rd cost) → (len + (dn near + dn cost) ≡ dn far + up cost) × (len ≤ lowest + 1000000)
   measured len is = let long : len + (dn near + dn cost) ≡ dn far + up cost = rw (near-back, cost-back, far-back) at is in (long, omega arith)
 
 -- ---- a step of the search

@@ -137,7 +137,25 @@ fn bid_all(count: usize, profit: &[usize; 256], off: usize, bids: &mut [usize; 2
     sum
 }
 
-// At which nodes those requests begin and end that bid more than the spans between cost. The toll of a node is what the spans below it cost together.
+// What the spans between two nodes cost. The toll of a node is what the spans below it cost together. (Ends that are no nodes cost nothing.)
+fn fare(a: usize, b: usize, tolls: &[usize; 64]) -> usize {
+    if 64 <= a {
+        return 0;
+    }
+    if 64 <= b {
+        return 0;
+    }
+    less(tolls[b], tolls[a])
+}
+
+// One more at a node.
+fn count_at(node: usize, counts: &mut [usize; 64]) {
+    if node < 64 {
+        counts[node] = more(counts[node], 1);
+    }
+}
+
+// At which nodes those requests begin and end that bid more than the spans between cost.
 fn ask(
     count: usize,
     lo: &[usize; 256],
@@ -153,13 +171,9 @@ fn ask(
     while i < count {
         let a = lo[i];
         let b = hi[i];
-        if a < 64 {
-            if b < 64 {
-                if less(tolls[b], tolls[a]) < bids[i] {
-                    begins[a] = more(begins[a], 1);
-                    ends[b] = more(ends[b], 1);
-                }
-            }
+        if fare(a, b, tolls) < bids[i] {
+            count_at(a, begins);
+            count_at(b, ends);
         }
         i += 1;
     }
@@ -280,9 +294,9 @@ fn settle(
     }
 }
 
-// What a request has above the tolls on its way, with a part of the greatest bid added, so that a little below them still counts.
-fn surplus(bid: usize, below: usize, above: usize, slack: usize) -> usize {
-    less(more(bid, slack), less(above, below)) / 64
+// What a request has above its fare, with a part of the greatest bid added, so that a little below them still counts.
+fn surplus(bid: usize, fare: usize, slack: usize) -> usize {
+    less(more(bid, slack), fare) / 64
 }
 
 // The surplus of each request, and the greatest.
@@ -300,16 +314,11 @@ fn surplus_all(
     let mut top = 0;
     let mut i = 0;
     while i < count {
-        let a = lo[i];
-        let b = hi[i];
-        if a < 64 {
-            if b < 64 {
-                let w = surplus(bids[i], tolls[a], tolls[b], slack);
-                worths[i] = w;
-                if top < w {
-                    top = w;
-                }
-            }
+        let cost = fare(lo[i], hi[i], tolls);
+        let w = surplus(bids[i], cost, slack);
+        worths[i] = w;
+        if top < w {
+            top = w;
         }
         i += 1;
     }
@@ -329,7 +338,7 @@ fn due_all(cells: usize, limits: &[usize; 64], tolls: &[usize; 64]) -> usize
     sum
 }
 
-// What the requests bid above the tolls on their way.
+// What the requests bid above their fares.
 fn bid_above(
     count: usize,
     lo: &[usize; 256],
@@ -342,13 +351,8 @@ fn bid_above(
     let mut sum = 0;
     let mut i = 0;
     while i < count {
-        let a = lo[i];
-        let b = hi[i];
-        if a < 64 {
-            if b < 64 {
-                sum = more(sum, less(bids[i], less(tolls[b], tolls[a])));
-            }
-        }
+        let cost = fare(lo[i], hi[i], tolls);
+        sum = more(sum, less(bids[i], cost));
         i += 1;
     }
     sum

@@ -1,6 +1,7 @@
 -- The sum of two numbers that are not above 0 fits, and lies as deep as both together. Assumes nothing.
 use mathlib.Core.Path.{_≡_}
 use native.Mathlib.Omega.{arith}
+use Prim.Native.Nat.{_+_}
 use lib.IntN.{ℤ, _+ℤ_}
 use Rattle.signed.specs.Bits.{ReadsAs, rd, plus, within, back}
 use Rattle.signed.specs.Parts.{apart, sum}
@@ -21,7 +22,7 @@ lower s =
     (s .args .fall)
     (near-back s)
     (back (within _ 1000000 (omega arith) (omega (arith, s .pre))))
-    (within _ 384000000 (omega arith) (omega (arith, s .pre, sum (s .args .near) (s .args .fall))))
+    (within _ (lowest + 1000000) (omega arith) (omega (arith, s .pre, sum (s .args .near) (s .args .fall))))
 
 add-result : tie.Need-add-result
 add-result c = lower (c .before) .fits
