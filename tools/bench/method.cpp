@@ -61,16 +61,10 @@ void fall(const Ground &g, Search &s, size_t u)
     if (u != 0 && 0 < g.room[u - 1]) try_arc(g, s, 0, u, u - 1, 257);
 }
 
-// Along the dropped candidates that begin at u.
-void spread_dropped(const Ground &g, Search &s, size_t u)
+// Along the candidates of one side with an end at u: the dropped ones from their first node, or back along the kept ones from their last.
+void follow(const Ground &g, Search &s, bool side, const size_t *far, const size_t *head, const size_t *next, size_t u)
 {
-    for (size_t i = g.head_lo[u]; 0 < i; i = g.next_lo[i - 1]) try_arc(g, s, g.cost[i - 1], u, g.hi[i - 1], i - 1);
-}
-
-// Back along the kept candidates that end at u.
-void spread_kept(const Ground &g, Search &s, size_t u)
-{
-    for (size_t i = g.head_hi[u]; 0 < i; i = g.next_hi[i - 1]) try_arc(g, s, -g.cost[i - 1], u, g.lo[i - 1], i - 1);
+    for (size_t i = head[u]; 0 < i; i = next[i - 1]) try_arc(g, s, side ? -g.cost[i - 1] : g.cost[i - 1], u, far[i - 1], i - 1);
 }
 
 // ---- search
@@ -92,7 +86,12 @@ void start(const Ground &g, Search &s, size_t b)
     s.label[b] = 0;
 }
 
-void spread(const Ground &g, Search &s, size_t u) { rise(g, s, u), fall(g, s, u), spread_dropped(g, s, u), spread_kept(g, s, u); }
+void spread(const Ground &g, Search &s, size_t u)
+{
+    rise(g, s, u), fall(g, s, u);
+    follow(g, s, false, g.hi, g.head_lo, g.next_lo, u);
+    follow(g, s, true, g.lo, g.head_hi, g.next_hi, u);
+}
 
 // A way from b to a that is shorter than s.most.
 bool search(const Ground &g, Search &s, size_t a, size_t b)

@@ -1,11 +1,11 @@
 -- What the arrays of the row planner hold. The flow's costs and distances are signed and never above 0: a candidate costs minus its profit,
 -- an idle cell 0, and a node's distance is minus its depth. Assumes nothing.
-use mathlib.Core.Bool.{Bool, true, false, not}
+use mathlib.Core.Bool.{Bool, true, false, not, cond}
 use mathlib.Core.List.{List}
 use mathlib.Core.Path.{_≡_}
 use Prim.Native.Nat.{ℕ, suc, _+_, _*_, _-_, _≤_, _<_}
 use lib.ListN.{getD, length, set}
-use lib.IntN.{ℤ, pos}
+use lib.IntN.{ℤ, pos, _-ℤ_}
 pub use Rattle.sums.specs.At.{at, flag}
 use Rattle.signed.specs.Parts.{up, dn}
 use Rattle.row.specs.Row.{Row}
@@ -57,6 +57,14 @@ pub record Ready (cells t : ℕ) (lo hi : List ℕ) (cost : List ℤ) (kept : Li
 -- a candidate of the first t whose flag is `side`
 abbrev pub Flagged : Bool → ℕ → List Bool → ℕ → Type 0
 Flagged side t kept i = (i < t) × (flag kept i ≡ side)
+
+-- an arc goes along a dropped candidate from its first node, and back along a kept one from its last: the nodes where the arcs of a side start
+abbrev pub endsOf : Bool → List ℕ → List ℕ → List ℕ
+endsOf side lo hi = cond side hi lo
+
+-- what an arc costs: back along a kept candidate its cost counts the other way
+abbrev pub costAlong : Bool → ℤ → ℤ
+costAlong side z = cond side (pos 0 -ℤ z) z
 
 -- p is 1 past the latest number below `bound` that is one of these, and 0 where none is
 pub record LatestBelow (One : ℕ → Type 0) (bound p : ℕ) : Type 0 where
@@ -155,8 +163,12 @@ UpDone g u d = Risen g d u
 abbrev pub CellsDone : Ground → ℕ → (ℕ → ℕ) → Type 0
 CellsDone g u d = Spread g d u (g .t) (g .t)
 
-abbrev pub DroppedDone : Ground → ℕ → (ℕ → ℕ) → Type 0
-DroppedDone g u d = Spread g d u 0 (g .t)
+-- the candidates of one side, from number i on: the dropped ones come before the kept ones
+abbrev pub DoneFrom : Bool → ℕ → Ground → ℕ → (ℕ → ℕ) → Type 0
+DoneFrom side i g u d = Spread g d u (cond side 0 i) (cond side i (g .t))
+
+abbrev pub NoneDone : Bool → Ground → ℕ → (ℕ → ℕ) → Type 0
+NoneDone side g = DoneFrom side (g .t) g
 
 abbrev pub AllDone : Ground → ℕ → (ℕ → ℕ) → Type 0
 AllDone g u d = Spread g d u 0 0

@@ -1,12 +1,11 @@
 // The arcs out of a node that has been settled, and the labels that they shorten. Every function that spreads is lent the whole ground of the search, so
 // that one record says what it is.
 ghost use mathlib.Core.Path.{_≡_};
-ghost use mathlib.Core.Bool.{true, false};
 ghost use Prim.Native.Nat.{suc, _+_, _≤_, _<_};
 ghost use lib.ListN.{getD, set};
-ghost use lib.IntN.{pos, _-ℤ_};
+ghost use lib.IntN.{pos};
 ghost use Rattle.signed.specs.Parts.{up, dn};
-ghost use Rattle.planrow.specs.State.{at, groundIn, Ready, Flagged, Chained, marks, Relaxation, Lacks, Tried, Spreads, Nothing, UpDone, CellsDone, DroppedDone, AllDone};
+ghost use Rattle.planrow.specs.State.{at, groundIn, Ready, Flagged, endsOf, costAlong, Chained, marks, Relaxation, Lacks, Tried, Spreads, Nothing, UpDone, CellsDone, DoneFrom, NoneDone};
 
 // What an arc of this cost lacks to lower its far end: never below 0.
 pub fn length_left(cost: i64, near: i64, far: i64) -> usize
@@ -14,14 +13,6 @@ pub fn length_left(cost: i64, near: i64, far: i64) -> usize
     ensures { λ r. ⌜ r + (dn near + dn cost) ≡ dn far + up cost ⌝ }
 {
     (cost + near - far) as usize
-}
-
-// The cost of an arc taken backwards.
-pub fn reversed(cost: i64) -> i64
-    requires { ⌜ (up cost ≤ 1000000) × (dn cost ≤ 1000000) ⌝ }
-    ensures { λ r. ⌜ r ≡ pos 0 -ℤ cost ⌝ }
-{
-    -cost
 }
 
 // Puts node v at the end of the list of `size` nodes. Answers how many there are then; the list is never full, and no caller has to know that.
@@ -151,43 +142,22 @@ pub fn fall(
     size
 }
 
-// The arcs along the dropped candidates that begin at u.
-pub fn spread_dropped(
-    cells: usize,
-    t: usize,
-    lo: &[usize; 256],
-    hi: &[usize; 256],
-    cost: &[i64; 256],
-    kept: &[bool; 256],
-    room: &[usize; 128],
-    dist: &[i64; 128],
-    head: &[usize; 128],
-    next: &[usize; 256],
-    most: usize,
-    label: &mut [usize; 128],
-    by: &mut [usize; 128],
-    from: &mut [usize; 128],
-    list: &mut [usize; 128],
-    size: usize,
-    u: usize,
-) -> usize
-    requires { ⌜ Ready cells t (now lo) (now hi) (now cost) (now kept) (now room) (now dist) ⌝ }
-    requires { ⌜ (u ≤ cells) × (at (now label) u ≤ 1000000) ⌝ }
-    requires { ⌜ Chained cells (Flagged false t (now kept)) (at (now lo)) (now head) (now next) ⌝ }
-    ensures { λ r. ⌜ Spreads (groundIn cells t (now (lo .entry)) (now (hi .entry)) (now (cost .entry)) (now (kept .entry)) (now (room .entry)) (now (dist .entry))) most CellsDone DroppedDone u (marks (now (label .entry)) (now (by .entry)) (now (from .entry)) (now (list .entry)) size) (marks (now (label .exit)) (now (by .exit)) (now (from .exit)) (now (list .exit)) r) ⌝ }
+// The cost of a candidate's arc: back along a kept one it counts the other way.
+fn cost_along(side: bool, cost: i64) -> i64
+    requires { ⌜ (up cost ≤ 1000000) × (dn cost ≤ 1000000) ⌝ }
+    ensures { λ r. ⌜ r ≡ costAlong side cost ⌝ }
 {
-    let mut n = size;
-    let mut i = head[u];
-    while 0 < i {
-        let e = i - 1;
-        n = try_arc(cost[e], dist, most, label, by, from, list, n, u, hi[e], e);
-        i = next[e];
+    if side {
+        return -cost;
     }
-    n
+    cost
 }
 
-// The arcs back along the kept candidates that end at u.
-pub fn spread_kept(
+// The arcs along the candidates of one side that have an end at u: the dropped ones from their first node, or back along the kept ones from their last.
+// `far` holds their other ends.
+pub fn follow(
+    side: bool,
+    far: &[usize; 256],
     cells: usize,
     t: usize,
     lo: &[usize; 256],
@@ -207,16 +177,16 @@ pub fn spread_kept(
     u: usize,
 ) -> usize
     requires { ⌜ Ready cells t (now lo) (now hi) (now cost) (now kept) (now room) (now dist) ⌝ }
-    requires { ⌜ (u ≤ cells) × (at (now label) u ≤ 1000000) ⌝ }
-    requires { ⌜ Chained cells (Flagged true t (now kept)) (at (now hi)) (now head) (now next) ⌝ }
-    ensures { λ r. ⌜ Spreads (groundIn cells t (now (lo .entry)) (now (hi .entry)) (now (cost .entry)) (now (kept .entry)) (now (room .entry)) (now (dist .entry))) most DroppedDone AllDone u (marks (now (label .entry)) (now (by .entry)) (now (from .entry)) (now (list .entry)) size) (marks (now (label .exit)) (now (by .exit)) (now (from .exit)) (now (list .exit)) r) ⌝ }
+    requires { ⌜ (u ≤ cells) × (at (now label) u ≤ 1000000) × (now far ≡ endsOf side (now hi) (now lo)) ⌝ }
+    requires { ⌜ Chained cells (Flagged side t (now kept)) (at (endsOf side (now lo) (now hi))) (now head) (now next) ⌝ }
+    ensures { λ r. ⌜ Spreads (groundIn cells t (now (lo .entry)) (now (hi .entry)) (now (cost .entry)) (now (kept .entry)) (now (room .entry)) (now (dist .entry))) most (NoneDone side) (DoneFrom side 0) u (marks (now (label .entry)) (now (by .entry)) (now (from .entry)) (now (list .entry)) size) (marks (now (label .exit)) (now (by .exit)) (now (from .exit)) (now (list .exit)) r) ⌝ }
 {
     let mut n = size;
     let mut i = head[u];
     while 0 < i {
         let e = i - 1;
-        let back = reversed(cost[e]);
-        n = try_arc(back, dist, most, label, by, from, list, n, u, lo[e], e);
+        let way = cost_along(side, cost[e]);
+        n = try_arc(way, dist, most, label, by, from, list, n, u, far[e], e);
         i = next[e];
     }
     n

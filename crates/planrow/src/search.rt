@@ -103,7 +103,9 @@ pub fn spread(
         risen,
         u,
     );
-    let along = arcs::spread_dropped(
+    let along = arcs::follow(
+        false,
+        hi,
         cells,
         t,
         lo,
@@ -122,7 +124,9 @@ pub fn spread(
         fallen,
         u,
     );
-    arcs::spread_kept(
+    arcs::follow(
+        true,
+        lo,
         cells,
         t,
         lo,

@@ -1,5 +1,6 @@
 -- `planrow::search::spread` meets its contract. Its four calls take u through its stages one after another, and none lengthens the label of u, which
 -- each of them asks to be small. Assumes nothing.
+use mathlib.Core.Path.{refl}
 use native.Mathlib.Omega.{arith}
 use Rattle.planrow.specs.Stages.{spreads-on}
 use Rattle.planrow.proofs.search.spread.Statement.{statement}
@@ -15,24 +16,24 @@ fall-requires c κs =
     let p = c .before .before .before .before .before .before .before .before .before .pre in
     (p .0, (p .1 .0 .0, omega arith))
 
-spread-dropped-requires : tie.Need-spread-dropped-requires
-spread-dropped-requires c κs =
+follow-requires : tie.Need-follow-requires
+follow-requires c κs =
     let p = c .before .before .before .before .before .before .before .before .before .before .before .before .before .before .pre in
-    (p .0, ((p .1 .0 .0, omega arith), p .1 .1 .dropped))
+    (p .0, ((p .1 .0 .0, omega arith, refl), p .1 .1 .dropped))
 
-spread-kept-requires : tie.Need-spread-kept-requires
-spread-kept-requires c κs =
+follow-requires-2 : tie.Need-follow-requires-2
+follow-requires-2 c κs =
     let p = c .before .before .before .before .before .before .before .before .before .before .before .before .before .before .before .before .before .before .before .pre in
-    (p .0, ((p .1 .0 .0, omega arith), p .1 .1 .held))
+    (p .0, ((p .1 .0 .0, omega arith, refl), p .1 .1 .held))
 
 returns : tie.Need-returns
 returns c =
     let d = c .before .before .before .before .before in
     let f = d .before .before .before .before .before in
     let e = f .before .before .before .before .before in
-    spreads-on (spreads-on (spreads-on (e .rise .ensures) (f .fall .ensures)) (d .spread-dropped .ensures)) (c .spread-kept .ensures)
+    spreads-on (spreads-on (spreads-on (e .rise .ensures) (f .fall .ensures)) (d .follow .ensures)) (c .follow2 .ensures)
 
 pub spread-spec : {M : Type 1} → statement M
 spread-spec =
     tie.close
-    (tie.spec rise-requires fall-requires spread-dropped-requires spread-kept-requires returns)
+    (tie.spec rise-requires fall-requires follow-requires follow-requires-2 returns)

@@ -4,8 +4,8 @@ use native.Mathlib.Omega.{arith}
 use lib.IntN.{pos, _-ℤ_}
 use Rattle.signed.specs.Bits.{ReadsAs, rd, minus, within, back}
 use Rattle.signed.specs.Parts.{neg}
-use Rattle.planrow.proofs.arcs.reversed.Statement.{statement}
-use Rattle.planrow.proofs.arcs.reversed.Tie as tie
+use Rattle.planrow.proofs.arcs.cost_along.Statement.{statement}
+use Rattle.planrow.proofs.arcs.cost_along.Tie as tie
 
 turned : (s : tie.Start) → ReadsAs (pos 0 -ℤ rd (s .args .cost)) (pos 0 -ℤ s .args .cost)
 turned s =
@@ -13,10 +13,13 @@ turned s =
     minus (pos 0) z refl (back (s .fits .cost)) (within (pos 0 -ℤ z) 1000000 (omega arith) (omega (arith, neg z)))
 
 sub-result : tie.Need-sub-result
-sub-result c = turned c .fits
+sub-result c = turned (c .before) .fits
 
 returns : tie.Need-returns
-returns c = turned c .again
+returns c = rw (c .if1 .taken) (turned (c .before) .again)
 
-pub reversed-spec : {M : Type 1} → statement M
-reversed-spec = tie.close (tie.spec sub-result returns)
+returns-2 : tie.Need-returns-2
+returns-2 c = rw (c .if1 .left) (back (c .before .fits .cost))
+
+pub cost-along-spec : {M : Type 1} → statement M
+cost-along-spec = tie.close (tie.spec sub-result returns returns-2)
