@@ -1,11 +1,13 @@
 /* melyonva.h: planning and checking wavelength plans, for C and C++ programs.
  *
  * Link with libdesk.a (`rt staticlib desk` writes it; ./check builds it). The two functions below are proved, in Rattle, to answer as docs/DESK.md says
- * for every input: nothing is assumed of the bytes. They keep no state, allocate nothing, call nothing, and may be called from several threads at once.
+ * for every input: nothing is assumed of the bytes. They keep no state, allocate nothing, call nothing but the C library's memcpy and memset, and may be called
+ * from several threads at once.
  *
  * What they do take from the caller, as any C function does (docs/TRUST.md): a pointer with a length points to that many bytes that stay readable (and, for
- * lists that are written, writable) during the call, and the three byte lists do not overlap. A NULL pointer with length 0 is an empty list and safe.
- * melyonva_plan_checked() and melyonva_check_checked() below test for NULL with a length and for overlap before they call.
+ * lists that are written, writable) during the call, and the lists that melyonva_plan() writes overlap neither each other nor the book. (The checker only reads,
+ * so its lists may overlap.) A NULL pointer with length 0 is an empty list and safe. melyonva_plan_checked() below tests for NULL with a length and for overlap
+ * before it calls, melyonva_check_checked() for NULL with a length.
  *
  * A call needs about 83 KiB of stack (84,504 bytes were used by a plan of the largest books, 55,000 by a check).
  */
@@ -59,7 +61,7 @@ static inline uint32_t melyonva_price(const uint8_t *prices, size_t j)
 
 /* ---- the same calls, with what the proof takes from the caller tested first */
 
-/* An answer that no call gives: the arguments were not what the proof takes from the caller. */
+/* An answer that no call gives: the arguments were not what the proof takes from the caller. Its highest bit is set too, so look for it first. */
 #define MELYONVA_BAD_ARGUMENTS UINT64_MAX
 
 static inline int melyonva_lists_ok(const void *p, size_t p_len, const void *q, size_t q_len)

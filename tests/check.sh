@@ -24,6 +24,9 @@ printf '0 1 1\n2 1 1\n' >"$work/plan"; expect 1 'no: requests 0 and 2 are both o
 printf '0 1 1\n1 2 2\n' >"$work/plan"; expect 1 'no: 2 requests cross span 1, whose limit is 1' books/B "$work/plan" "$work/prices"
 printf '1 1 1\n' >"$work/plan"; expect 1 'no: request 1 has no way 1' books/B "$work/plan" "$work/prices"
 printf '1 2 3\n' >"$work/plan"; expect 1 'no: request 1 is on channel 3 of 2' books/B "$work/plan" "$work/prices"
+printf '1 2 1\n1 2 2\n' >"$work/plan"; expect 2 'plan line 2: request 1 is named on line 1 already' books/B "$work/plan" "$work/prices"
+printf '1 2 1\n2 1 1\n3 1 2\n4 1 1\n' >"$work/plan"; expect 2 'plan line 4: the book has no request 4' books/B "$work/plan" "$work/prices"
+printf '1 2 3\n' >"$work/plan"
 printf '0\n4\n1000001\n' >"$work/prices"; expect 3 'refused 13 at 2' books/B "$work/plan" "$work/prices"
 printf '0\n4\n' >"$work/prices"; expect 3 'refused 12 at 0' books/B "$work/plan" "$work/prices"
 expect 3 'refused 14 at 0' books/E /dev/null /dev/null

@@ -65,13 +65,16 @@ static void lines(const char *name, int each, void (*take)(void *, const unsigne
     if (f != stdin) fclose(f);
 }
 
-struct entries { uint8_t bytes[MELYONVA_MAX_ENTRY_BYTES]; };
+/* the entries, and for each request the line of the plan that names it, 0 for none */
+struct entries { uint8_t bytes[MELYONVA_MAX_ENTRY_BYTES]; unsigned line[MELYONVA_MAX_REQUESTS]; };
 struct prices { uint8_t bytes[4 * MELYONVA_MAX_SPANS]; size_t count; };
 
 static void take_entry(void *to, const unsigned long *v, unsigned line)
 {
     struct entries *e = to;
     if (v[0] >= MELYONVA_MAX_REQUESTS || v[1] > 255 || v[2] > 255) { fprintf(stderr, "plan line %u: no such request, way or channel\n", line); exit(2); }
+    if (e->line[v[0]] != 0) { fprintf(stderr, "plan line %u: request %lu is named on line %u already\n", line, v[0], e->line[v[0]]); exit(2); }
+    e->line[v[0]] = line;
     e->bytes[2 * v[0]] = (uint8_t)v[1];
     e->bytes[2 * v[0] + 1] = (uint8_t)v[2];
 }
@@ -147,7 +150,10 @@ int main(int argc, char **argv)
     lines(argv[3], 1, take_price, &p);
     uint64_t answer = melyonva_check_checked(book, n, e.bytes, sizeof e.bytes, p.bytes, 4 * p.count);
     if (refused(answer)) return 3;
+    unsigned m = (unsigned)(n / 16 - 1 - spans(book));
+    for (unsigned i = m; i < MELYONVA_MAX_REQUESTS; i++)
+        if (e.line[i] != 0) { fprintf(stderr, "plan line %u: the book has no request %u\n", e.line[i], i); return 2; }
     if (answer == 1) { printf("yes\n"); return 0; }
-    explain(book, (unsigned)(n / 16 - 1 - spans(book)), e.bytes, p.bytes);
+    explain(book, m, e.bytes, p.bytes);
     return 1;
 }
