@@ -38,6 +38,8 @@ check() {
 { net 2 64 1; spans 64; reqs 257; } | check '257 requests on a ring of 64 nodes are 1' 'refused 1 at 0'
 none 0 | check 'an empty file is 1' 'refused 1 at 0'
 net 1 2 4 | check 'a network record alone is 5 at 1' 'refused 5 at 1'
+# a folder can be opened and not read: that is no empty file
+[ -z "$("$light" <"$work")" ] || { echo 'printing: a page was written for an input that cannot be read'; failed=1; }
 
 OUT="$work" sh tests/compare/run.sh standalone drive "$light" --books "${BOOKS:-20000}" ${SEED:+--seed "$SEED"} || failed=1
 [ "$failed" -eq 0 ] && echo 'printing: all as it should be'

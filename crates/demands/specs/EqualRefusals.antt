@@ -15,7 +15,7 @@ use Rattle.verdict.specs.Checked.{checkedOf}
 use Rattle.planner.specs.declared.Answer.the-variants as Planner
 use Rattle.planner.specs.declared.BookPlan.{BookPlan}
 use Rattle.planner.specs.Promise.{BookPlanned}
-use Rattle.planner.specs.Cases.{is-refused}
+use Rattle.planner.specs.Cases.{is-refused, refused-once}
 use Rattle.desk.specs.Promise.{PlanAnswer}
 
 -- reading: the same book, or the same number and place
@@ -44,11 +44,11 @@ pub checked-equal :
     (file entries prices : List ℕ) {c d : Checked} → checkedOf c ≡ checker file entries prices → checkedOf d ≡ checker file entries prices → c ≡ d
 checked-equal file entries prices {c} {d} p q = same-checked c d (p ∙ sym q)
 
--- the planner: where one outcome is a refusal, the other is the same one
+-- the planner: where one outcome is a refusal, the other is the same one, with all that stands beside it
 pub planner-refusal-equal :
     {file : List ℕ} {entryPlaces pricePlaces : ℕ} {r other : BookPlan} {refusal : Refusal}
-    → BookPlanned file entryPlaces pricePlaces r → BookPlanned file entryPlaces pricePlaces other → r .answer ≡ Planner.Refused refusal → other .answer ≡ Planner.Refused refusal
-planner-refusal-equal p q e = let is = is-refused p e in q .refusal _ _ is
+    → BookPlanned file entryPlaces pricePlaces r → BookPlanned file entryPlaces pricePlaces other → r .answer ≡ Planner.Refused refusal → r ≡ other
+planner-refusal-equal p q e = let is = is-refused p e in refused-once (p .refusal _ _ is) (q .refusal _ _ is)
 
 -- the desk: where the book or the lists are refused, the answers are equal, and so is every byte of both lists afterwards
 module _ {file entries prices entries₁ prices₁ entries₂ prices₂ : List ℕ} {answer₁ answer₂ number place : ℕ}

@@ -16,7 +16,7 @@ use Rattle.reader.specs.declared.Refusal.{Refusal}
 use Rattle.planner.specs.declared.Answer.the-variants.{Planned, Refused}
 use Rattle.planner.specs.declared.BookPlan.{BookPlan}
 use Rattle.planner.specs.Promise.{PlanOf, BookPlanned}
-use Rattle.planner.specs.Cases.{spans-small, is-refused, is-planned, plan-holds}
+use Rattle.planner.specs.Cases.{spans-small, is-plan, is-refused, is-planned, plan-holds}
 use Rattle.desk.specs.Packing.{packedRefusal, packedPlan}
 use Rattle.desk.specs.Promise.{EntriesWritten, PricesWritten, Handed, PlanAnswer}
 use Rattle.desk.specs.Bounds.{SmallRefusal, SmallPlan, LongEnough, refusal-small, plan-small, long-enough}
@@ -61,7 +61,7 @@ module _ {file : List ℕ} (entries prices : List ℕ) {r : BookPlan} (made : Bo
     planned : O.Planned book (at (r .entries)) earned number cut
     planned =
         let p = plan in
-        let the-answer : Planned (p .earned) (p .number) (p .cut) ≡ Planned earned number cut = cc (p .says, says) in
+        let the-answer : Planned (p .earned) (p .number) (p .cut) ≡ Planned earned number cut = cc (is-plan p, says) in
         let e : p .earned ≡ earned = cc in
         let n : p .number ≡ number = cc in
         let c : p .cut ≡ cut = cc in

@@ -25,7 +25,7 @@ use Rattle.reader.specs.declared.Refusal.{Refusal}
 use Rattle.planner.specs.declared.BookPlan.{BookPlan}
 use Rattle.planner.specs.declared.Answer.the-variants.{Planned, Refused}
 use Rattle.planner.specs.Promise.{PlanOf, BookPlanned}
-use Rattle.planner.specs.Cases.{is-refused, is-planned, plan-holds}
+use Rattle.planner.specs.Cases.{is-plan, is-refused, is-planned, plan-holds}
 
 -- a plan that the planner could hand back, as text
 pub record PlanPage (book : Book) (out : List ℕ) (r : ℕ) : Type 0 where
@@ -110,7 +110,7 @@ module _ {file : List ℕ} {r : BookPlan} (b : BookPlanned file 256 64 r) where
         text = prints .text book (book .limits) (table (Books.count book) (profit book)) (sym (ours .shape-is)) (plan-holds ours)
 
         told : r .answer ≡ Planned (ours .earned) (ours .number) (ours .cut)
-        told = ours .says
+        told = is-plan ours
 
         shown : PlanPage book after k
         shown =

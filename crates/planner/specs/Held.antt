@@ -7,6 +7,7 @@ use mathlib.Core.Path.{_≡_, refl, sym, ap, _∙_}
 use Prim.Native.Nat.{ℕ}
 use native.Mathlib.Omega.{arith}
 use lib.Dec.{eqb, ltb}
+use lib.ListN.{replicate}
 use Rattle.sums.specs.Each.{decided}
 use Rattle.book.specs.Book.{Book, spans, spansOf, count}
 use Rattle.book.specs.Columns.{at}
@@ -29,12 +30,13 @@ use Rattle.line.specs.Promise.{CanPlanLine, LinePlanned}
 use Rattle.ring.specs.Promise.{CanPlanRing, RingPlanned}
 use Rattle.planner.specs.declared.BookPlan.{BookPlan}
 use Rattle.planner.specs.declared.Answer.{Answer}
+use Rattle.planner.specs.declared.Answer.the-variants as Answers
 use Rattle.planner.specs.declared.Found.{Found}
-use Rattle.planner.specs.Promise.{answered, Refusing, PlanOf, BookPlanned}
+use Rattle.planner.specs.Promise.{answered, plannedOf, Refusing, PlanOf, BookPlanned}
 
 -- the accepted book is refused by 12, or planned
 pub record HeldPlanned (book : Book) (entryPlaces pricePlaces : ℕ) (r : BookPlan) : Type 0 where
-  pub short : placesShort book entryPlaces pricePlaces ≡ true → Refusing (record { number = 12; place = 0 }) r
+  pub short : placesShort book entryPlaces pricePlaces ≡ true → Refusing 12 0 r
   pub long : placesShort book entryPlaces pricePlaces ≡ false → PlanOf book r
 
 pub line-shown : (book : Book) → book .shape ≡ 1 → cutShown book ≡ 65535
@@ -81,18 +83,44 @@ held-ring other held =
       holds = held .holds;
     }
 
+-- a refusal, with zeros beside it
+pub refuses :
+    (refusal : Refusal)
+    → Refusing (refusal .number) (refusal .place) (record {
+      answer = Answers.Refused refusal;
+      shape = 0;
+      spans = 0;
+      count = 0;
+      a = replicate 256 0;
+      b = replicate 256 0;
+      entries = replicate 256 0;
+      prices = replicate 64 0;
+    })
+unfolding plannedOf
+refuses refusal =
+    record {
+      says = refl;
+      no-shape = refl;
+      no-spans = refl;
+      no-requests = refl;
+      no-first-ends = refl;
+      no-second-ends = refl;
+      no-entries = refl;
+      no-prices = refl;
+    }
+
 -- what the planner of its shape answers is the plan of the book
 module _ {net : Network} {n : ℕ} {limits a b profits : List ℕ} (held : HeldBook net n limits a b profits) {entries prices : List ℕ} {solved : Solved} {answer : Answer} where
   plan-of :
       {earned number shown : ℕ} → solved ≡ Solving.the-variants.Planned earned number → answer ≡ answered solved shown → Planned (held .book) (at entries) earned number shown
       → (held .book .shape ≡ 1 → Priced (held .book) (at entries) (at prices)) → PlanOf (held .book) (beside net n a b (record { answer = answer; entries = entries; prices = prices }))
-  unfolding answered spans
+  unfolding answered plannedOf spans
   plan-of {earned} {number} {shown} solved-is says planned priced =
       record {
         earned = earned;
         number = number;
         cut = shown;
-        says = says ∙ ap (λ (s : Solved). answered s shown) solved-is;
+        says = rw (says, solved-is);
         planned = planned;
         priced = priced;
         sound = held .sound;
@@ -141,7 +169,7 @@ unfolding placesShort spans count
 short-is entryPlaces pricePlaces held s e = rw (held .shape-is, held .nodes-is, ← held .holds .counted, e, s)
 
 -- 12, and a plan where it is not 12
-pub held-short : {book : Book} {entryPlaces pricePlaces : ℕ} {r : BookPlan} → placesShort book entryPlaces pricePlaces ≡ true → Refusing (record { number = 12; place = 0 }) r → HeldPlanned book entryPlaces pricePlaces r
+pub held-short : {book : Book} {entryPlaces pricePlaces : ℕ} {r : BookPlan} → placesShort book entryPlaces pricePlaces ≡ true → Refusing 12 0 r → HeldPlanned book entryPlaces pricePlaces r
 held-short t says = record { short = λ e. says; long = λ e. let z : _≡_ {A = ℕ} 0 1 = cc in absurd (omega arith) }
 
 pub held-long : {book : Book} {entryPlaces pricePlaces : ℕ} {r : BookPlan} → placesShort book entryPlaces pricePlaces ≡ false → PlanOf book r → HeldPlanned book entryPlaces pricePlaces r
@@ -151,10 +179,10 @@ held-long t plan = record { short = λ e. let z : _≡_ {A = ℕ} 0 1 = cc in ab
 
 refused-by :
     {file : List ℕ} {entryPlaces pricePlaces number place : ℕ} {r : BookPlan} → plannableIn file entryPlaces pricePlaces ≡ refused number place
-    → Refusing (record { number = number; place = place }) r → BookPlanned file entryPlaces pricePlaces r
+    → Refusing number place r → BookPlanned file entryPlaces pricePlaces r
 refused-by {number} {place} is says =
     record {
-      refusal = λ n p e. let same-number : number ≡ n = cc in let same-place : place ≡ p = cc in rw (← same-number, ← same-place) (says .says);
+      refusal = λ n p e. let same-number : number ≡ n = cc in let same-place : place ≡ p = cc in rw (← same-number, ← same-place) says;
       plan = λ book e. let z : _≡_ {A = ℕ} 0 1 = cc in absurd (omega arith);
     }
 
@@ -168,7 +196,7 @@ planned-by {book} {r} is plan =
 
 -- a file that is not read is refused as the reader says
 pub unread :
-    {file : List ℕ} {taken : Taken} {refusal : Refusal} {r : BookPlan} (entryPlaces pricePlaces : ℕ) → Reads file taken → taken .answer ≡ Refused refusal → Refusing refusal r
+    {file : List ℕ} {taken : Taken} {refusal : Refusal} {r : BookPlan} (entryPlaces pricePlaces : ℕ) → Reads file taken → taken .answer ≡ Refused refusal → Refusing (refusal .number) (refusal .place) r
     → BookPlanned file entryPlaces pricePlaces r
 unfolding plannableIn andThen
 unread entryPlaces pricePlaces reads e says = refused-by (rw (refused-read reads e)) says

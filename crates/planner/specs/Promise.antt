@@ -2,10 +2,11 @@
 use mathlib.Core.List.{List}
 use mathlib.Core.Path.{_≡_}
 use Prim.Native.Nat.{ℕ, _<_}
+use lib.ListN.{replicate}
 use Rattle.book.specs.Book.{Book, spans, count, endA, endB}
 use Rattle.book.specs.Columns.{at}
 use Rattle.book.specs.Sound.{Sound}
-use Rattle.book.specs.Reading.{done, refused}
+use Rattle.book.specs.Reading.{Outcome, done, refused}
 use Rattle.rules.specs.Operations as O
 use Rattle.rules.specs.Operations.{plannableIn, Priced}
 use Rattle.reader.specs.declared.Refusal.{Refusal}
@@ -20,16 +21,28 @@ unfoldable pub answered : Solved → ℕ → Answer
 answered (Solving.the-variants.Planned earned number) cut = Planned earned number cut
 answered (Solving.the-variants.NoneLeft request) cut = Refused (record { number = 15; place = request })
 
--- a refusal and no plan
-pub record Refusing (refusal : Refusal) (r : BookPlan) : Type 0 where
-  pub says : r .answer ≡ Refused refusal
+-- what the planner's answer means: a plan's earnings, number kept and cut, or a refusal's number and place
+unfoldable pub plannedOf : Answer → Outcome (ℕ × ℕ × ℕ)
+plannedOf (Planned earned number cut) = done (earned, number, cut)
+plannedOf (Refused refusal) = refused (refusal .number) (refusal .place)
+
+-- a refusal and no plan: beside its number and place there is nothing but zeros
+pub record Refusing (n p : ℕ) (r : BookPlan) : Type 0 where
+  pub says : plannedOf (r .answer) ≡ refused n p
+  pub no-shape : r .shape ≡ 0
+  pub no-spans : r .spans ≡ 0
+  pub no-requests : r .count ≡ 0
+  pub no-first-ends : r .a ≡ replicate 256 0
+  pub no-second-ends : r .b ≡ replicate 256 0
+  pub no-entries : r .entries ≡ replicate 256 0
+  pub no-prices : r .prices ≡ replicate 64 0
 
 -- a plan of an accepted book: its numbers, its entries and, on a line, its prices
 pub record PlanOf (book : Book) (r : BookPlan) : Type 0 where
   pub earned : ℕ
   pub number : ℕ
   pub cut : ℕ
-  pub says : r .answer ≡ Planned earned number cut
+  pub says : plannedOf (r .answer) ≡ done (earned, number, cut)
   pub planned : O.Planned book (at (r .entries)) earned number cut
   pub priced : book .shape ≡ 1 → Priced book (at (r .entries)) (at (r .prices))
   pub sound : Sound book
@@ -41,5 +54,5 @@ pub record PlanOf (book : Book) (r : BookPlan) : Type 0 where
 
 -- the book's refusals and then 12, or a plan
 pub record BookPlanned (file : List ℕ) (entryPlaces pricePlaces : ℕ) (r : BookPlan) : Type 0 where
-  pub refusal : (n p : ℕ) → plannableIn file entryPlaces pricePlaces ≡ refused n p → r .answer ≡ Refused (record { number = n; place = p })
+  pub refusal : (n p : ℕ) → plannableIn file entryPlaces pricePlaces ≡ refused n p → Refusing n p r
   pub plan : (book : Book) → plannableIn file entryPlaces pricePlaces ≡ done book → PlanOf book r

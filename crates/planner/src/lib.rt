@@ -38,7 +38,7 @@ pub struct BookPlan {
 
 // No plan, and this is why.
 fn refuse(refusal: Refusal) -> BookPlan
-    ensures { λ r. ⌜ Refusing refusal r ⌝ }
+    ensures { λ r. ⌜ Refusing (refusal .number) (refusal .place) r ⌝ }
 {
     BookPlan {
         answer: Answer::Refused(refusal),
