@@ -1,5 +1,5 @@
 -- Reading a file (01, "Refusals by number"): records are tested in file order, and the first fault found ends the reading.
--- Nothing of a refused book is said to be anything. Assumes nothing.
+-- Of a refused book only its number and place are said. Assumes nothing.
 use mathlib.Core.Bool.{cond}
 use mathlib.Core.List.{List}
 use Prim.Native.Nat.{ℕ, _+_, _-_, max}

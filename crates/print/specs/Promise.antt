@@ -12,7 +12,7 @@ pub record PrintsRefusal (number place : ℕ) (before after : List ℕ) (r : ℕ
   pub fits : r ≤ 4096
   pub text : Put before after 0 (printedRefusal number place) r
 
--- what the caller sees to: 256 requests at most, whose ends are nodes and whose entries are 0 or of way 1 or 2 and a channel up to 96
+-- what the caller sees to: 256 requests at most, whose ends are nodes and whose entries are at most 2 × 256 + 96, which is enough to count digits
 pub record Printable (count : ℕ) (a b entries : List ℕ) : Type 0 where
   pub many : count ≤ 256
   pub a-node : (i : ℕ) → i < count → at a i < 64

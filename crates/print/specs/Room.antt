@@ -1,4 +1,4 @@
--- How much room the printed lines take. Of numbers as 01 has them a request's line is 15 bytes long at most, and from request 100 on 16: after the
+-- How much room the printed lines take. With ends below 64 and a channel of up to three digits a request's line is 15 bytes long at most, and from request 100 on 16: after the
 -- first line, of 83 at most whatever the numbers, 256 requests end before 4,096. Assumes nothing.
 use mathlib.Core.Bool.{Bool, true, false}
 use mathlib.Core.List.{List}

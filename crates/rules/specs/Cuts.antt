@@ -31,10 +31,11 @@ cutLine book j =
       requests = map (moved (book .nodes) j) (book .requests);
     }
 
--- the lowest-numbered span whose line has the greatest best earnings
+-- the best earnings of the line that cut j leaves
 unfoldable pub cutBest : Book → ℕ → ℕ
 cutBest book j = best (cutLine book j)
 
+-- the lowest-numbered span whose line has the greatest best earnings
 unfoldable pub cut : Book → ℕ
 cut book = first (spans book) (λ j. each (spans book) (λ i. leb (cutBest book i) (cutBest book j)))
 

@@ -183,7 +183,7 @@ says-yes = says (done true)
 abbrev pub says-no : Answer
 says-no = says (done false)
 
--- the best plans of A and of D and F, and a poorer plan of A: nothing kept
+-- best plans of A and of B
 abbrev pub planA : List ℕ
 planA = entry 1 1 (entry 1 2 (entry 0 0 []))
 

@@ -16,7 +16,7 @@ use Rattle.rules.specs.Prices.{Prices, verdict}
 
 -- 12: the entry list is shorter than m, or on a line the price list shorter than n − 1; lists are measured in whole places
 unfoldable pub placesShort : Book → ℕ → ℕ → Bool
-placesShort book entryPlaces pricePlaces = ltb entryPlaces (count book) || (isLine book && ltb pricePlaces (spans book))
+placesShort book entryRoom priceRoom = ltb entryRoom (count book) || (isLine book && ltb priceRoom (spans book))
 
 unfoldable pub tooShort : Book → List ℕ → List ℕ → Bool
 tooShort book entries prices = placesShort book (entryPlaces entries) (pricePlaces prices)
@@ -38,7 +38,7 @@ checker file entries prices = andThen (reading file) (λ book. checking book ent
 
 -- the planner as far as no plan is needed: the book's refusals, then 12
 unfoldable pub plannableIn : List ℕ → ℕ → ℕ → Outcome Book
-plannableIn file entryPlaces pricePlaces = andThen (reading file) (λ book. cond (placesShort book entryPlaces pricePlaces) (refused 12 0) (done book))
+plannableIn file entryRoom priceRoom = andThen (reading file) (λ book. cond (placesShort book entryRoom priceRoom) (refused 12 0) (done book))
 
 unfoldable pub plannable : List ℕ → List ℕ → List ℕ → Outcome Book
 plannable file entries prices = plannableIn file (entryPlaces entries) (pricePlaces prices)
@@ -58,7 +58,7 @@ pub record Priced (book : Book) (plan : Plan) (prices : Prices) : Type 0 where
   pub accepted : verdict book plan prices ≡ true
 
 -- 15: the kept set is that of a best plan, channels are handed out by the rule, and request r is the first that finds none of 1 to k left.
--- (Proved never to happen, in the crate `lines`; the row stays until 11/14.)
+-- (Proved never to happen: `none-left-never` in the crate `rings`; the row stays until 11/14.)
 pub record NoneLeft (book : Book) (r : ℕ) : Type 0 where
   pub plan : Plan
   pub other : Plan

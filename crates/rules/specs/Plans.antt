@@ -1,7 +1,6 @@
 -- A plan, and when it obeys the rules (01, "Routes and a plan that obeys the rules"). Assumes nothing.
-use mathlib.Core.Bool.{Bool, not, _&&_, _||_}
+use mathlib.Core.Bool.{Bool, true, not, _&&_, _||_}
 use mathlib.Core.Path.{_≡_}
-use mathlib.Core.Bool.{true}
 use Prim.Native.Nat.{ℕ, _/_, _%_, _≤_}
 use lib.Dec.{leb, ltb, eqb}
 use Rattle.sums.specs.Each.{each, some}
