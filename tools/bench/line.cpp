@@ -1,4 +1,4 @@
-// crates/line and crates/channels in plain C++.
+// crates/line, crates/cells and crates/channels in plain C++.
 #include "method.h"
 
 namespace plain {

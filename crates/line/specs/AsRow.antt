@@ -11,7 +11,7 @@ use Rattle.row.specs.Same.{SameIntervals, Same}
 use Rattle.lines.specs.RowOf.{rowOf}
 use Rattle.planrow.specs.State.{rowIn}
 use Rattle.channels.specs.HandOut.{rowOn}
-use Rattle.line.specs.Steps.{Candidates}
+use Rattle.cells.specs.Steps.{Candidates}
 
 module _
     {book : Book} {cells count : ℕ} {limits a b profits lo hi : List ℕ} {cost : List ℤ}

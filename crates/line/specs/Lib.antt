@@ -1,12 +1,7 @@
 pub mod Promise
 pub mod Steps
-pub mod Laying
 pub mod Entering
-pub mod Placing
 pub mod Totals
-pub mod Solving
-pub mod Reordered
-pub mod Arranging
 pub mod AsRow
 pub mod Certified
 pub mod Written

@@ -27,10 +27,11 @@ use Rattle.lines.specs.Ceiling.{yes-best}
 use Rattle.planrow.specs.State.{flag, rowIn}
 use Rattle.channels.specs.HandOut.{rowOn, CanHandOut, HandedOut}
 use Rattle.channels.specs.declared.Given.{Given}
+use Rattle.cells.specs.Steps.{CanSolve, Solves, Falling, prices-of}
+use Rattle.cells.specs.Solving.{real-intervals}
 use Rattle.line.specs.declared.Solved.the-variants.{Planned}
 use Rattle.line.specs.Promise.{CanPlanLine, LinePlanned}
-use Rattle.line.specs.Steps.{CanSolve, Solves, Falling, Channels, Entered, prices-of, sumOf, numberOf}
-use Rattle.line.specs.Solving.{real-intervals}
+use Rattle.line.specs.Steps.{Channels, Entered, sumOf, numberOf}
 use Rattle.line.specs.AsRow.{same-intervals, same-row}
 use Rattle.line.specs.Certified.{Certified, certified, certified-yes, earns-best}
 use Rattle.line.specs.Written.{keeps-are, goes-its-way, channels-are, sum-is, number-is}

@@ -1,7 +1,8 @@
 // The entries of a plan, and the sums over what is kept.
 ghost use mathlib.Core.Path.{_≡_};
 ghost use Prim.Native.Nat.{_≤_};
-ghost use Rattle.line.specs.Steps.{Profits, Channels, Entered, sumOf, numberOf};
+ghost use Rattle.cells.specs.Steps.{Profits};
+ghost use Rattle.line.specs.Steps.{Channels, Entered, sumOf, numberOf};
 
 // The profits of the kept ones.
 pub fn earned(count: usize, kept: &[bool; 256], profit: &[usize; 256]) -> usize

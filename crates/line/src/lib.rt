@@ -1,13 +1,12 @@
 // The best plan on a line, with its channels and its prices (document 01, "What the planner hands back"). The line is a row: its spans are the cells, and a
 // request lies over the cells between its ends.
-mod cells;
 mod entries;
 
 ghost use mathlib.Core.Path.{_≡_};
 ghost use Prim.Native.Nat.{_-_};
 ghost use Rattle.rules.specs.Best.{best};
+ghost use Rattle.cells.specs.Placing.{OneToOne, LowPrices};
 ghost use Rattle.line.specs.Promise.{CanPlanLine, LinePlanned};
-ghost use Rattle.line.specs.Placing.{OneToOne, LowPrices};
 use channels::Given;
 
 // What planning a line comes to: what it earns and how many are kept, or the request for which no channel was left (refusal 15).

@@ -15,7 +15,7 @@ use Rattle.rules.specs.Cuts.{steps, spanAt, cutBest}
 use Rattle.rings.specs.Turn.{span-below, place-of-span}
 use Rattle.ceiling.specs.PricedLine.{PricedLine}
 use Rattle.ceiling.specs.Above.{best-upto-ceiling}
-use Rattle.line.specs.Placing.{OneToOne, LowPrices}
+use Rattle.cells.specs.Placing.{OneToOne, LowPrices}
 use Rattle.ring.specs.Promise.{CanPlanRing}
 use Rattle.ring.specs.Turned.{cut-plannable, cut-best}
 

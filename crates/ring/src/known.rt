@@ -5,7 +5,7 @@ ghost use Rattle.sums.specs.Filled.{Filled};
 ghost use Rattle.rules.specs.Best.{best};
 ghost use Rattle.rules.specs.Cuts.{spanAt};
 ghost use Rattle.line.specs.Promise.{CanPlanLine};
-ghost use Rattle.line.specs.Placing.{LowPrices};
+ghost use Rattle.cells.specs.Placing.{LowPrices};
 
 pub fn higher(x: usize, y: usize) -> usize
     ensures { λ r. ⌜ r ≡ max x y ⌝ }

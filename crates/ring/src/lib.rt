@@ -5,7 +5,7 @@ mod known;
 ghost use mathlib.Core.Path.{_≡_};
 ghost use Prim.Native.Nat.{_≤_, _<_, max};
 ghost use Rattle.rules.specs.Cuts.{cut, cutBest};
-ghost use Rattle.line.specs.Placing.{LowPrices};
+ghost use Rattle.cells.specs.Placing.{LowPrices};
 ghost use Rattle.ring.specs.Promise.{CanPlanRing, RingPlanned};
 
 // The answer, the cut, and an entry for each request: those of the plan of the line which the cut leaves.

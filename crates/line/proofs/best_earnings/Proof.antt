@@ -2,8 +2,8 @@
 use mathlib.Core.Path.{_∙_}
 use native.Mathlib.Omega.{arith}
 use Rattle.row.specs.Clamp.{clamp}
+use Rattle.cells.specs.Placing.{placed-low}
 use Rattle.line.specs.Promised.{some-node, can-solve, falling, sum-best}
-use Rattle.line.specs.Placing.{placed-low}
 use Rattle.line.proofs.best_earnings.Statement.{statement}
 use Rattle.line.proofs.best_earnings.Tie as tie
 

@@ -6,8 +6,8 @@ use native.Mathlib.Omega.{arith}
 use borrow.Author.Needs.{needs}
 use lib.Seq.{length-take-le}
 use Rattle.channels.specs.declared.Given.the-variants.{All, NoneLeft}
+use Rattle.cells.specs.Placing.{line-places, line-placed}
 use Rattle.line.specs.Promised.{some-node, can-solve, can-hand-out, channels-small, falling, planned}
-use Rattle.line.specs.Placing.{line-places, line-placed}
 use Rattle.line.proofs.plan_line.Statement.{statement}
 use Rattle.line.proofs.plan_line.Tie as tie
 

@@ -3,7 +3,7 @@
 use mathlib.Core.Logic.{⊎-elim}
 use Prim.Native.Nat.{_-_, _≤_}
 use native.Mathlib.Omega.{arith}
-use Rattle.line.specs.Placing.{LowPrices}
+use Rattle.cells.specs.Placing.{LowPrices}
 use Rattle.ring.specs.Promise.{CanPlanRing}
 use Rattle.ring.specs.Turned.{few-nodes, some-nodes}
 use Rattle.ring.specs.Known.{low-none}

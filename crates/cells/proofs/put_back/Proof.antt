@@ -2,9 +2,9 @@
 use mathlib.Core.Path.{_≡_}
 use Prim.Native.Nat.{_-_, _≤_}
 use native.Mathlib.Omega.{arith}
-use Rattle.line.specs.Arranging.{PuttingBack, putting-none, putting-more}
-use Rattle.line.proofs.cells.put_back.Statement.{statement}
-use Rattle.line.proofs.cells.put_back.Tie as tie
+use Rattle.cells.specs.Arranging.{PuttingBack, putting-none, putting-more}
+use Rattle.cells.proofs.put_back.Statement.{statement}
+use Rattle.cells.proofs.put_back.Tie as tie
 
 abbrev Inv-loop : tie.InvT-loop
 Inv-loop count place keeps kept₀ r₀ kept r = (r ≤ count) × PuttingBack r place keeps kept

@@ -1,12 +1,10 @@
 // A line's columns as a row, and the prices of its cells.
 ghost use mathlib.Core.Path.{_≡_};
-ghost use Prim.Native.Nat.{_-_, _≤_, min};
+ghost use Prim.Native.Nat.{_-_, min};
 ghost use Rattle.signed.specs.Parts.{dn};
-ghost use Rattle.sums.specs.Filled.{Filled};
-ghost use Rattle.book.specs.Columns.{at};
-ghost use Rattle.line.specs.Steps.{Profits, Candidates, CanSolve, Solves, Falls, prices-of};
-ghost use Rattle.line.specs.Placing.{CanPrice, Placed};
-ghost use Rattle.line.specs.Reordered.{Numbers, Arranged, PutBack};
+ghost use Rattle.cells.specs.Steps.{Profits, Candidates, CanSolve, Solves, Falls, prices-of};
+ghost use Rattle.cells.specs.Placing.{CanPrice, Placed};
+ghost use Rattle.cells.specs.Reordered.{Numbers, Arranged, PutBack};
 
 // The lower and the upper end of each request, and its cost: minus its profit.
 fn lay(

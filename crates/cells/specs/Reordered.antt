@@ -8,6 +8,7 @@ use native.Mathlib.Omega.{arith}
 use lib.Dec.{leb, ltb}
 use lib.ListN.{getD}
 use lib.IntN.{ℤ, pos}
+use Rattle.sums.specs.At.{at}
 use Rattle.sums.specs.Sums.{bit, Σ-ext}
 use Rattle.sums.specs.Filled.{Filled}
 use Rattle.sums.specs.Permuted.{Σ-permuted}
@@ -15,7 +16,6 @@ use Rattle.signed.specs.Parts.{up, dn}
 use Rattle.row.specs.Row.{covers}
 use Rattle.flow.specs.Balanced.{loadTo}
 use Rattle.planrow.specs.State.{flag, depth, rowIn, CanPlan, Standing}
-use Rattle.book.specs.Columns.{at}
 use Rattle.order.specs.Order.{Order}
 
 -- each of at most 256 numbers is below count

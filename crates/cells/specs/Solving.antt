@@ -4,11 +4,11 @@ use mathlib.Core.List.{List}
 use Prim.Native.Nat.{ℕ}
 use native.Mathlib.Omega.{arith}
 use lib.IntN.{ℤ}
+use Rattle.sums.specs.At.{at}
 use Rattle.sums.specs.Filled.{Filled}
-use Rattle.book.specs.Columns.{at}
 use Rattle.flow.specs.Balanced.{Proper}
 use Rattle.planrow.specs.State.{bare, CanPlan}
-use Rattle.line.specs.Steps.{Candidates, CanSolve}
+use Rattle.cells.specs.Steps.{Candidates, CanSolve}
 
 module _
     {cells count : ℕ} {limits a b profits lo hi : List ℕ} {cost : List ℤ}

@@ -8,10 +8,10 @@ use borrow.Author.Count.{below-more}
 use lib.ListN.{length, getD, set, length-set}
 use lib.Seq.{getD-set-same, getD-set-other}
 use lib.IntN.{ℤ, pos}
+use Rattle.sums.specs.At.{at}
 use Rattle.sums.specs.Filled.{filled-none, filled-more}
-use Rattle.book.specs.Columns.{at}
 use Rattle.planrow.specs.State.{flag}
-use Rattle.line.specs.Reordered.{Arranged, PutBack}
+use Rattle.cells.specs.Reordered.{Arranged, PutBack}
 
 -- what a list holds up to its next place, after a store there
 stored : {A : Type 0} (f : ℕ → A) (xs : List A) (d : A) {n : ℕ} → ((i : ℕ) → i < n → getD xs i d ≡ f i) → n < length xs → (i : ℕ) → i < n + 1 → getD (set xs n (f n)) i d ≡ f i

@@ -7,10 +7,10 @@ use borrow.Author.Count.{below-more}
 use lib.ListN.{length, getD, set, length-set}
 use lib.Seq.{getD-set-same, getD-set-other}
 use lib.IntN.{ℤ, pos}
+use Rattle.sums.specs.At.{at}
 use Rattle.sums.specs.Filled.{filled-none, filled-more}
 use Rattle.signed.specs.Parts.{up, dn}
-use Rattle.book.specs.Columns.{at}
-use Rattle.line.specs.Steps.{Candidates}
+use Rattle.cells.specs.Steps.{Candidates}
 
 -- n requests are laid, in arrays of 256 places
 pub record Laying (n : ℕ) (a b profits lo hi : List ℕ) (cost : List ℤ) : Type 0 where

@@ -7,12 +7,12 @@ use lib.IntN.{pos, _-ℤ_}
 use mir.Facts.{toZ-pos}
 use mir.Syntax.{w64}
 use mir.Val.{toZ}
+use Rattle.sums.specs.At.{at}
 use Rattle.signed.specs.Parts.{neg}
 use Rattle.signed.specs.Bits.{ReadsAs, minus, within}
-use Rattle.book.specs.Columns.{at}
-use Rattle.line.specs.Laying.{Laying, laying-none, laying-more}
-use Rattle.line.proofs.cells.lay.Statement.{statement}
-use Rattle.line.proofs.cells.lay.Tie as tie
+use Rattle.cells.specs.Laying.{Laying, laying-none, laying-more}
+use Rattle.cells.proofs.lay.Statement.{statement}
+use Rattle.cells.proofs.lay.Tie as tie
 
 abbrev Inv-loop : tie.InvT-loop
 Inv-loop count a b profit lo₀ hi₀ cost₀ i₀ lo hi cost i = (i ≤ count) × Laying i a b profit lo hi cost

@@ -2,10 +2,10 @@
 -- the row as laid. Assumes nothing.
 use native.Mathlib.Omega.{arith}
 use borrow.Author.Needs.{needs}
-use Rattle.line.specs.Solving.{can-plan}
-use Rattle.line.specs.Reordered.{can-arranged, reordered}
-use Rattle.line.proofs.cells.solve.Statement.{statement}
-use Rattle.line.proofs.cells.solve.Tie as tie
+use Rattle.cells.specs.Solving.{can-plan}
+use Rattle.cells.specs.Reordered.{can-arranged, reordered}
+use Rattle.cells.proofs.solve.Statement.{statement}
+use Rattle.cells.proofs.solve.Tie as tie
 
 -- from one call back to the one before it, and to the start
 abbrev start : tie.After-lay → tie.Start

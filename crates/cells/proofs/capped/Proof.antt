@@ -9,8 +9,8 @@ use Rattle.signed.specs.Parts.{up, dn, apart, dif, abs, not-below}
 use Rattle.signed.specs.Tests.{leZ-true, leZ-false}
 use Rattle.signed.specs.Bits.{ReadsAs, rd, taken}
 use Rattle.planrow.specs.State.{lowest}
-use Rattle.line.proofs.cells.capped.Statement.{statement}
-use Rattle.line.proofs.cells.capped.Tie as tie
+use Rattle.cells.proofs.capped.Statement.{statement}
+use Rattle.cells.proofs.capped.Tie as tie
 
 abbrev gap : tie.Start → ℤ
 gap s = s .args .near -ℤ s .args .far

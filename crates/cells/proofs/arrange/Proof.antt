@@ -2,11 +2,11 @@
 use mathlib.Core.Path.{_≡_}
 use Prim.Native.Nat.{_-_, _≤_, _<_}
 use native.Mathlib.Omega.{arith}
+use Rattle.sums.specs.At.{at}
 use Rattle.signed.specs.Bits.{known, back}
-use Rattle.book.specs.Columns.{at}
-use Rattle.line.specs.Arranging.{Arranging, arranging-none, arranging-more}
-use Rattle.line.proofs.cells.arrange.Statement.{statement}
-use Rattle.line.proofs.cells.arrange.Tie as tie
+use Rattle.cells.specs.Arranging.{Arranging, arranging-none, arranging-more}
+use Rattle.cells.proofs.arrange.Statement.{statement}
+use Rattle.cells.proofs.arrange.Tie as tie
 
 abbrev Inv-loop : tie.InvT-loop
 Inv-loop count order lo hi cost los₀ his₀ costs₀ i₀ los his costs i = (i ≤ count) × Arranging i order lo hi cost los his costs

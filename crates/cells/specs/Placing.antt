@@ -11,10 +11,10 @@ use lib.ListN.{length, set, length-set, List·getD-append}
 use lib.Seq.{getD-set-same, getD-set-other}
 use lib.IntN.{ℤ}
 use lib.Dec.{eqb}
+use Rattle.sums.specs.At.{at}
 use Rattle.sums.specs.Each.{some, some-at, some-of, of-yes, decided}
 use Rattle.sums.specs.Filled.{Filled}
-use Rattle.book.specs.Columns.{at}
-use Rattle.line.specs.Steps.{Falling}
+use Rattle.cells.specs.Steps.{Falling}
 
 -- each cell has a place in the list, and no two have the same one
 pub record OneToOne (cells : ℕ) (place : List ℕ) (list : List ℕ) : Type 0 where

@@ -5,14 +5,14 @@ use native.Mathlib.Omega.{arith}
 use native.Mathlib.Numerals.{add-one}
 use lib.ListN.{length, getD}
 use lib.IntN.{pos}
+use Rattle.sums.specs.At.{at}
 use Rattle.signed.specs.Bits.{rd, known, back}
-use Rattle.book.specs.Columns.{at}
 use Rattle.row.specs.Clamp.{clamp}
 use Rattle.flow.specs.Balanced.{priceAt}
-use Rattle.line.specs.Steps.{prices-of}
-use Rattle.line.specs.Placing.{Placed, placed-none, placed-more}
-use Rattle.line.proofs.cells.price.Statement.{statement}
-use Rattle.line.proofs.cells.price.Tie as tie
+use Rattle.cells.specs.Steps.{prices-of}
+use Rattle.cells.specs.Placing.{Placed, placed-none, placed-more}
+use Rattle.cells.proofs.price.Statement.{statement}
+use Rattle.cells.proofs.price.Tie as tie
 
 abbrev Inv-loop : tie.InvT-loop
 Inv-loop cells dist place prices₀ j₀ prices j = (j ≤ cells) × Placed (prices-of dist) place j prices₀ prices
