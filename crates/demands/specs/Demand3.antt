@@ -8,21 +8,14 @@ use Rattle.book.specs.Book.{Book}
 use Rattle.book.specs.Columns.{at}
 use Rattle.book.specs.Reading.{done}
 use Rattle.rules.specs.Plans.{Plan, Best}
-use Rattle.rules.specs.Prices.{Prices, verdict}
-use Rattle.rules.specs.Operations.{plannableIn, Priced}
+use Rattle.rules.specs.Prices.{verdict}
+use Rattle.rules.specs.Operations.{plannableIn}
 use Rattle.lines.specs.Line.{Line}
 use Rattle.lines.specs.Ceiling.{yes-for-best, no-for-others}
 use Rattle.planner.specs.declared.BookPlan.{BookPlan}
 use Rattle.planner.specs.Promise.{PlanOf, BookPlanned}
 
-module _ {book : Book} (on : Line book) {plan : Plan} {prices : Prices} (ours : Priced book plan prices) where
-  pub best-gets-yes : (other : Plan) → Best book other → verdict book other prices ≡ true
-  best-gets-yes other b = yes-for-best on plan other prices (ours .accepted) b
-
-  pub others-get-no : (other : Plan) → (Best book other → ⊥) → verdict book other prices ≡ false
-  others-get-no other n = no-for-others on other prices n
-
--- the same of what `planner::plan_book` answers for a line's book with lists long enough
+-- what `planner::plan_book` answers for a line's book with lists long enough
 module _ {file : List ℕ} {entryPlaces pricePlaces : ℕ} {r : BookPlan} (planned : BookPlanned file entryPlaces pricePlaces r)
     {book : Book} (long : plannableIn file entryPlaces pricePlaces ≡ done book) (line : book .shape ≡ 1)
   where
@@ -33,7 +26,7 @@ module _ {file : List ℕ} {entryPlaces pricePlaces : ℕ} {r : BookPlan} (plann
     on = record { line = line; sound = ours .sound }
 
     pub planner-best-gets-yes : (other : Plan) → Best book other → verdict book other (at (r .prices)) ≡ true
-    planner-best-gets-yes = best-gets-yes on (ours .priced line)
+    planner-best-gets-yes other best = yes-for-best on (at (r .entries)) other (at (r .prices)) (ours .priced line .accepted) best
 
     pub planner-others-get-no : (other : Plan) → (Best book other → ⊥) → verdict book other (at (r .prices)) ≡ false
-    planner-others-get-no = others-get-no on (ours .priced line)
+    planner-others-get-no other not-best = no-for-others on other (at (r .prices)) not-best

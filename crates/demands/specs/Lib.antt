@@ -1,4 +1,6 @@
 pub mod Demand3
+pub mod NotRead
+pub mod AtDesk
 pub mod Equal
 pub mod EqualRefusals
 pub mod EqualAtDesk

@@ -118,6 +118,15 @@ long-enough file entryPlaces pricePlaces book = by (reading file) refl
         long : placesShort made entryPlaces pricePlaces ≡ false → done made ≡ done book → LongEnough book entryPlaces pricePlaces
         long t e = let same-book : made ≡ book = cc in rw same-book at (not-short made entryPlaces pricePlaces t)
 
+-- and the book is the one that was read
+pub plannable-read : (file : List ℕ) (entryPlaces pricePlaces : ℕ) (book : Book) → plannableIn file entryPlaces pricePlaces ≡ done book → reading file ≡ done book
+unfolding plannableIn andThen
+plannable-read file entryPlaces pricePlaces book = by (reading file)
+  where
+    by : (o : Outcome Book) → andThen o (λ made. cond (placesShort made entryPlaces pricePlaces) (refused 12 0) (done made)) ≡ done book → o ≡ done book
+    by (refused n p) same = same
+    by (done made) same = ⊎-elim (λ t. let z : _≡_ {A = ℕ} 0 1 = cc (rw t at same) in absurd (omega arith)) (λ t. rw t at same) (decided (placesShort made entryPlaces pricePlaces))
+
 -- ---- the checker's: the book's, 14, 12 and 13
 
 step : {number place : ℕ} (ring short dear : Bool) (at : ℕ) (verdict : Bool) → (dear ≡ true → at ≤ 320) →

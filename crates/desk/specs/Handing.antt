@@ -101,14 +101,14 @@ module _ {file : List ℕ} (entries prices : List ℕ) {r : BookPlan} (made : Bo
             says = packed;
             planned = planned;
             written = rw (plan .count-is) at written;
-            costs = at (r .prices);
+            asked = at (r .prices);
             priced = plan .priced;
             line-prices = on-line;
             ring-prices = on-ring;
           })
 
       pub handed-line : {prices′ : List ℕ} → r .shape ≡ 1 → PricesWritten (r .spans) (at (r .prices)) prices prices′ → PlanAnswer file entries prices answer entries′ prices′
-      handed-line e costs = handed (λ l. rw (plan .spans-is) at costs) (λ l. absurd (omega (arith, plan .shape-is)))
+      handed-line e written = handed (λ l. rw (plan .spans-is) at written) (λ l. absurd (omega (arith, plan .shape-is)))
 
       pub handed-ring : (r .shape ≡ 1 → ⊥) → PlanAnswer file entries prices answer entries′ prices
       handed-ring other = handed (λ l. absurd (other (plan .shape-is ∙ l))) (λ l. refl)

@@ -4,3 +4,4 @@ pub mod Bounds
 pub mod Writing
 pub mod Handing
 pub mod Checking
+pub mod Unpacking

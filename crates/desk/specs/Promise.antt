@@ -35,9 +35,9 @@ pub record Handed (book : Book) (answer : ℕ) (entries prices entries′ prices
   pub says : answer ≡ packedPlan earned number cut
   pub planned : Planned book plan earned number cut
   pub written : EntriesWritten (count book) plan entries entries′
-  pub costs : Prices
-  pub priced : book .shape ≡ 1 → Priced book plan costs
-  pub line-prices : book .shape ≡ 1 → PricesWritten (spans book) costs prices prices′
+  pub asked : Prices
+  pub priced : book .shape ≡ 1 → Priced book plan asked
+  pub line-prices : book .shape ≡ 1 → PricesWritten (spans book) asked prices prices′
   pub ring-prices : book .shape ≡ 2 → prices′ ≡ prices
 
 -- the planner at the boundary: a refusal writes nothing

@@ -18,7 +18,7 @@ pub extern "C" fn melyonva_plan(book: &[u8], entries: &mut [u8], prices: &mut [u
     let made = planner::plan_book(book, entries.len() / 2, prices.len() / 4);
     let answer = made.answer;
     let plan = made.entries;
-    let costs = made.prices;
+    let asked = made.prices;
     match answer {
         Answer::Refused(refusal) => pack::refusal(refusal.number, refusal.place),
         Answer::Planned {
@@ -28,7 +28,7 @@ pub extern "C" fn melyonva_plan(book: &[u8], entries: &mut [u8], prices: &mut [u
         } => {
             write::write_numbers(2, made.count, &plan, entries);
             if made.shape == 1 {
-                write::write_numbers(4, made.spans, &costs, prices);
+                write::write_numbers(4, made.spans, &asked, prices);
                 return pack::plan(earned, number, cut);
             }
             pack::plan(earned, number, cut)

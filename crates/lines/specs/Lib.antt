@@ -10,4 +10,3 @@ pub mod Entries
 pub mod Found
 pub mod Made
 pub mod Best
-pub mod Accepted

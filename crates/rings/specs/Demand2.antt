@@ -2,12 +2,9 @@
 -- leaves." Said of any accepted ring book and any plan that is best on the line of the reported cut. Assumes nothing.
 use mathlib.Core.Path.{_≡_, sym, _∙_}
 use mathlib.Core.Bool.{true}
-use mathlib.Core.List.{List}
 use Prim.Native.Nat.{ℕ, _≤_, _<_}
 use native.Mathlib.Omega.{arith}
 use Rattle.book.specs.Book.{Book, spans}
-use Rattle.book.specs.Reading.{done, reading}
-use Rattle.book.specs.Sound.{sound}
 use Rattle.rules.specs.Plans.{Plan, earnings, obeys, Best}
 use Rattle.rules.specs.Cuts.{cutLine, cutBest, cut}
 use Rattle.lines.specs.Best.{most, best-is}
@@ -15,9 +12,6 @@ use Rattle.rings.specs.Ring.{Ring}
 use Rattle.rings.specs.CutLine.{cut-line}
 use Rattle.rings.specs.Fair.{cut-earnings, cut-plan-obeys}
 use Rattle.rings.specs.Choice.{cut-in, cut-chosen}
-
-pub accepted-ring : (file : List ℕ) (book : Book) → reading file ≡ done book → book .shape ≡ 2 → Ring book
-accepted-ring file book read ring = record { ring = ring; sound = sound file book read }
 
 module _ {book : Book} (on : Ring book) where
   -- what a plan of the line which a cut leaves can earn

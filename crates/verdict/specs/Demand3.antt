@@ -46,7 +46,7 @@ module _ {file entries prices : List ℕ} (j : Judged file entries prices) where
   long : tooShort (j .book) entries prices ≡ false
   long = W.measured on-line entries prices ∙ rw (le-ltb _ _ (j .entries-enough), le-ltb _ _ (j .prices-enough))
 
-  is-verdict : done (verdict (j .book) (entryIn entries) (priceIn prices)) ≡ checker file entries prices
+  pub is-verdict : done (verdict (j .book) (entryIn entries) (priceIn prices)) ≡ checker file entries prices
   is-verdict =
       W.book-accepted file entries prices (j .read)
       (W.verdict-given on-line entries prices long (W.none-dear (j .book) prices (j .price-upto)))
