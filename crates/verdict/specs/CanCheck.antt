@@ -1,31 +1,11 @@
 -- What the checker works on: an accepted line as columns of numbers, an entry for each request, and for each span a price that is not too high.
--- Its two halves, the rules and the sums, promise things of any book that stands so. Assumes nothing.
-use mathlib.Core.Path.{_≡_}
+-- Its two halves, the rules (crate `lawful`) and the sums, promise things of any book that stands so. Assumes nothing.
 use mathlib.Core.List.{List}
 use Prim.Native.Nat.{ℕ, _*_, _≤_, _<_}
-use native.Mathlib.Omega.{arith}
 use lib.ListN.{length}
-use Rattle.sums.specs.Filled.{Filled}
-use Rattle.book.specs.Book as Books
-use Rattle.book.specs.Book.{Book, limit, endA, endB}
+use Rattle.book.specs.Book.{Book}
 use Rattle.book.specs.Bytes.{priceIn}
-use Rattle.book.specs.Columns.{at}
-use Rattle.lines.specs.Line.{Line}
-use Rattle.lines.specs.HeldLine.{HeldLine, few-spans, a-in, b-in}
-
--- an accepted line, its spans and requests counted, its limits and ends in columns
-pub record Drawn (book : Book) (spans : ℕ) (limits : List ℕ) (count : ℕ) (a b : List ℕ) : Type 0 where
-  pub on : Line book
-  pub spans-is : spans ≡ Books.spans book
-  pub counted : count ≡ Books.count book
-  pub limit-is : Filled (limit book) spans limits
-  pub a-is : Filled (endA book) count a
-  pub b-is : Filled (endB book) count b
-
--- the ends of the first `count` requests are below a bound
-pub record EndsBelow (bound count : ℕ) (a b : List ℕ) : Type 0 where
-  pub a-below : (i : ℕ) → i < count → at a i < bound
-  pub b-below : (i : ℕ) → i < count → at b i < bound
+use Rattle.lines.specs.HeldLine.{HeldLine}
 
 -- an accepted line with its profits, entries enough, and prices enough, none above 1,000,000
 pub record CanCheck (spans : ℕ) (limits : List ℕ) (count : ℕ) (a b profits entries prices : List ℕ) : Type 0 where
@@ -34,22 +14,3 @@ pub record CanCheck (spans : ℕ) (limits : List ℕ) (count : ℕ) (a b profits
   pub entries-enough : 2 * count ≤ length entries
   pub prices-enough : 4 * spans ≤ length prices
   pub price-upto : (s : ℕ) → s < spans → priceIn prices s ≤ 1000000
-
--- the rules do not look at the profits
-pub drawn :
-    {book : Book} {spans count : ℕ} {limits a b profits : List ℕ} → HeldLine book spans count limits a b profits
-    → Drawn book spans limits count a b
-drawn h = record {
-  on = h .line;
-  spans-is = h .spans-is;
-  counted = h .holds .counted;
-  limit-is = record { is = λ s l. h .holds .limit-is s (omega (arith, h .spans-is)) };
-  a-is = record { is = h .holds .a-is };
-  b-is = record { is = h .holds .b-is };
-}
-
--- the nodes of a line are below 64
-pub ends-below :
-    {book : Book} {spans count : ℕ} {limits a b profits : List ℕ} → HeldLine book spans count limits a b profits
-    → EndsBelow 64 count a b
-ends-below h = record { a-below = λ i l. omega (arith, a-in h i l, few-spans h); b-below = λ i l. omega (arith, b-in h i l, few-spans h) }

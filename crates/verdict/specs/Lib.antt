@@ -1,10 +1,4 @@
 pub mod CanCheck
-pub mod Entry
-pub mod Spans
-pub mod Sweep
-pub mod Loads
-pub mod SpanBySpan
-pub mod Lawful
 pub mod Totals
 pub mod Balance
 pub mod Checked

@@ -9,10 +9,7 @@ ghost use Rattle.columns.specs.Seam.{HeldBook, LentBook};
 ghost use Rattle.verdict.specs.CanCheck.{CanCheck};
 ghost use Rattle.verdict.specs.Checked.{checkedOf};
 
-mod ends;
-mod fair;
 mod places;
-mod sweep;
 mod totals;
 
 // What checking a plan comes to: yes, no, or a refusal with its number and place.
@@ -37,7 +34,7 @@ fn weigh(
     requires { ⌜ CanCheck spans (now limits) count (now a) (now b) (now profits) (now entries) (now prices) ⌝ }
     ensures { λ r. ⌜ ((w : CanCheck spans (now (limits .entry)) count (now (a .entry)) (now (b .entry)) (now (profits .entry)) (now (entries .entry)) (now (prices .entry))) → channels ≡ w .book .channels → r ≡ verdict (w .book) (entryIn (now (entries .entry))) (priceIn (now (prices .entry)))) ⌝ }
 {
-    if !fair::lawful(spans, channels, limits, count, a, b, entries) {
+    if !lawful::lawful(spans, channels, limits, count, a, b, entries) {
         return false;
     }
     totals::balanced(spans, limits, count, a, b, profits, entries, prices)

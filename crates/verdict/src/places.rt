@@ -6,15 +6,7 @@ ghost use lib.ListN.{length};
 ghost use lib.Dec.{ltb};
 ghost use Rattle.sums.specs.Each.{first};
 ghost use Rattle.sums.specs.Filled.{Filled};
-ghost use Rattle.book.specs.Bytes.{entryPlaces, pricePlaces, entryIn, priceIn};
-
-// Entry i.
-pub fn entry_at(entries: &[u8], i: usize) -> usize
-    requires { ⌜ 2 * i + 2 ≤ length (now entries) ⌝ }
-    ensures { λ r. ⌜ r ≡ entryIn (now (entries .entry)) i ⌝ }
-{
-    reader::bytes::two(entries, 2 * i)
-}
+ghost use Rattle.book.specs.Bytes.{entryPlaces, pricePlaces, priceIn};
 
 // The price of span s.
 pub fn price_at(prices: &[u8], s: usize) -> usize

@@ -28,7 +28,7 @@ fn earned(count: usize, profits: &[usize; 256], entries: &[u8]) -> usize
     let mut sum = 0;
     let mut i = 0;
     while i < count {
-        let entry = places::entry_at(entries, i);
+        let entry = lawful::entry_at(entries, i);
         sum += kept_profit(profits[i], entry);
         i += 1;
     }

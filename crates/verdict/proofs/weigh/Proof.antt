@@ -4,7 +4,7 @@ use borrow.Author.Needs.{needs}
 use borrow.Author.Tests.{not-true, not-false}
 use Rattle.rules.specs.Prices.{verdict}
 use Rattle.lines.specs.HeldLine.{few-spans, few}
-use Rattle.verdict.specs.CanCheck.{drawn, ends-below}
+use Rattle.lawful.specs.Drawn.{drawn, ends-below}
 use Rattle.verdict.proofs.weigh.Statement.{statement}
 use Rattle.verdict.proofs.weigh.Tie as tie
 
