@@ -57,7 +57,7 @@ refused-once {r} {other} x y =
     let entries : r .entries ≡ other .entries = x .no-entries ∙ sym (y .no-entries) in
     let prices : r .prices ≡ other .prices = x .no-prices ∙ sym (y .no-prices) in
     let all : _≡_ {A = BookPlan} (record { answer = r .answer; shape = r .shape; spans = r .spans; count = r .count; a = r .a; b = r .b; entries = r .entries; prices = r .prices }) other =
-        rw (answer, shape, spans, count, a, b, entries, prices) in
+    rw (answer, shape, spans, count, a, b, entries, prices) in
     all
 
 pub is-refused :
