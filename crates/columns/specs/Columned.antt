@@ -6,7 +6,7 @@ use Prim.Native.Nat.{ℕ, _+_, _≤_, _<_}
 use native.Mathlib.Omega.{arith}
 use lib.ListN.{length, getD, set, length-set}
 use Rattle.sums.specs.Filled.{Filled, filled-none, filled-more}
-use Rattle.reader.specs.declared.Request.{Request}
+use Rattle.records.specs.declared.Request.{Request}
 use Rattle.reader.specs.Says.{noRequest}
 use Rattle.columns.specs.declared.RequestColumns.{RequestColumns}
 

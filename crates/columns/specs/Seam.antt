@@ -11,8 +11,8 @@ use Rattle.book.specs.Book.{Book, spans, limit, endA, endB, profit}
 use Rattle.book.specs.Reading.{done, reading}
 use Rattle.book.specs.Sound.{Sound, sound}
 use Rattle.book.specs.Columns.{at, Holds}
-use Rattle.reader.specs.declared.Network.{Network}
-use Rattle.reader.specs.declared.Request.{Request}
+use Rattle.records.specs.declared.Network.{Network}
+use Rattle.records.specs.declared.Request.{Request}
 use Rattle.reader.specs.declared.Taken.{Taken}
 use Rattle.reader.specs.declared.Answer.the-variants.{Accepted}
 use Rattle.reader.specs.Says.{plain, bookFrom, Reads}

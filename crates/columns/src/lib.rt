@@ -1,6 +1,6 @@
 // The accepted requests as columns of numbers: the seam between the reader and the planner and checker. The list of requests is lent.
 ghost use Rattle.columns.specs.Columned.{Columned, CanColumn};
-use reader::Request;
+use records::Request;
 
 pub struct RequestColumns {
     pub a: [usize; 256],

@@ -6,7 +6,7 @@ use Prim.Native.Nat.{ℕ}
 use native.Mathlib.Omega.{arith}
 use Rattle.book.specs.Reading.{refused}
 use Rattle.rules.specs.Operations.{plannable, checker}
-use Rattle.reader.specs.declared.Refusal.{Refusal}
+use Rattle.records.specs.declared.Refusal.{Refusal}
 use Rattle.reader.specs.declared.Taken.{Taken}
 use Rattle.reader.specs.Says.{outcomeOf, Reads}
 use Rattle.verdict.specs.declared.Checked.{Checked}

@@ -12,7 +12,7 @@ use Rattle.book.specs.Reading.{done, refused}
 use Rattle.rules.specs.Operations as O
 use Rattle.rules.specs.Operations.{plannable}
 use Rattle.print.specs.Fair.{fair-printable}
-use Rattle.reader.specs.declared.Refusal.{Refusal}
+use Rattle.records.specs.declared.Refusal.{Refusal}
 use Rattle.planner.specs.declared.Answer.the-variants.{Planned, Refused}
 use Rattle.planner.specs.declared.BookPlan.{BookPlan}
 use Rattle.planner.specs.Promise.{PlanOf, BookPlanned}

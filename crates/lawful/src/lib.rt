@@ -20,7 +20,7 @@ pub fn entry_at(entries: &[u8], i: usize) -> usize
     requires { ⌜ 2 * i + 2 ≤ length (now entries) ⌝ }
     ensures { λ r. ⌜ r ≡ entryIn (now (entries .entry)) i ⌝ }
 {
-    reader::bytes::two(entries, 2 * i)
+    records::bytes::two(entries, 2 * i)
 }
 
 // The way that exists from a to b.

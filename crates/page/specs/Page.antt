@@ -21,7 +21,7 @@ use Rattle.text.specs.Put.{Put, put-front}
 use Rattle.print.specs.Printed.{printedRefusal, printedPlan}
 use Rattle.print.specs.Promise.{PrintsRefusal, PrintsPlan, Printable}
 use Rattle.print.specs.Fair.{fair-printable}
-use Rattle.reader.specs.declared.Refusal.{Refusal}
+use Rattle.records.specs.declared.Refusal.{Refusal}
 use Rattle.planner.specs.declared.BookPlan.{BookPlan}
 use Rattle.planner.specs.declared.Answer.the-variants.{Planned, Refused}
 use Rattle.planner.specs.Promise.{PlanOf, BookPlanned}

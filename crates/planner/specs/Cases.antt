@@ -11,7 +11,7 @@ use Rattle.book.specs.Book.{Book, spansOf, count, limit, profit}
 use Rattle.book.specs.Columns.{Holds}
 use Rattle.book.specs.Reading.{Outcome, done, refused}
 use Rattle.rules.specs.Operations.{plannableIn}
-use Rattle.reader.specs.declared.Refusal.{Refusal}
+use Rattle.records.specs.declared.Refusal.{Refusal}
 use Rattle.planner.specs.declared.Answer.{Answer}
 use Rattle.planner.specs.declared.Answer.the-variants.{Planned, Refused}
 use Rattle.planner.specs.declared.BookPlan.{BookPlan}

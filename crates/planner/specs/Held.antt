@@ -17,8 +17,8 @@ use Rattle.rules.specs.Operations.{placesShort, plannableIn, Planned, Priced}
 use Rattle.lines.specs.Line.{Line}
 use Rattle.lines.specs.Ways.{line-spans}
 use Rattle.rings.specs.Never15.{line-plan, ring-plan}
-use Rattle.reader.specs.declared.Network.{Network}
-use Rattle.reader.specs.declared.Refusal.{Refusal}
+use Rattle.records.specs.declared.Network.{Network}
+use Rattle.records.specs.declared.Refusal.{Refusal}
 use Rattle.reader.specs.declared.Taken.{Taken}
 use Rattle.reader.specs.declared.Answer.the-variants.{Accepted, Refused}
 use Rattle.reader.specs.Says.{Reads, bookFrom}

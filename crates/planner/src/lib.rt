@@ -9,9 +9,9 @@ ghost use Rattle.planner.specs.Promise.{answered, Refusing, PlanOf, Book
 ghost use Rattle.planner.specs.Held.{beside, HeldPlanned};
 use columns::RequestColumns;
 use line::Solved;
-use reader::Network;
-use reader::Refusal;
-use reader::Request;
+use records::Network;
+use records::Refusal;
+use records::Request;
 
 // What planning a book comes to.
 pub enum Answer {
@@ -134,7 +134,7 @@ fn plan_held(
     requires { ⌜ HeldBook net count limits (cols .a) (cols .b) (cols .profit) ⌝ }
     ensures { λ r. ⌜ ((held : HeldBook net count limits (cols .a) (cols .b) (cols .profit)) → HeldPlanned (held .book) «entry_places» «price_places» r) ⌝ }
 {
-    let spans = reader::shapes::spans_of(net.shape, net.nodes);
+    let spans = records::shapes::spans_of(net.shape, net.nodes);
     if short(net.shape, spans, count, entry_places, price_places) {
         return refuse(Refusal {
             number: 12,

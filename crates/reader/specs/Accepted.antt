@@ -3,8 +3,8 @@ use mathlib.Core.Path.{_≡_, sym}
 use mathlib.Core.List.{List}
 use Prim.Native.Nat.{ℕ}
 use Rattle.book.specs.Reading.{done, refused, reading}
-use Rattle.reader.specs.declared.Network.{Network}
-use Rattle.reader.specs.declared.Refusal.{Refusal}
+use Rattle.records.specs.declared.Network.{Network}
+use Rattle.records.specs.declared.Refusal.{Refusal}
 use Rattle.reader.specs.declared.Answer.the-variants.{Accepted, Refused}
 use Rattle.reader.specs.declared.Taken.{Taken}
 use Rattle.reader.specs.Says.{Reads, bookFrom, outcomeOf}

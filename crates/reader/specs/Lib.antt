@@ -1,15 +1,7 @@
 pub mod Says
-pub mod Blank
-pub mod Shapes
-pub mod Tests
-pub mod Judged
-pub mod Records
-pub mod Due
 pub mod Series
 pub mod Spans
 pub mod Orders
-pub mod Parts
-pub mod Rows
 pub mod WaysOut
 pub mod Whole
 pub mod Accepted

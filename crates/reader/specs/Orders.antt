@@ -10,16 +10,16 @@ use lib.ListN.{set}
 use Rattle.book.specs.Book as B
 use Rattle.book.specs.Refusals.{records}
 use Rattle.book.specs.Reading.{requestOf}
-use Rattle.reader.specs.declared.Network.{Network}
-use Rattle.reader.specs.declared.Request.{Request}
-use Rattle.reader.specs.declared.Reading.{Reading}
-use Rattle.reader.specs.declared.Reading.the-variants.{Got}
-use Rattle.reader.specs.declared.Record.{Record}
-use Rattle.reader.specs.declared.Record.the-variants as kind
+use Rattle.records.specs.declared.Network.{Network}
+use Rattle.records.specs.declared.Request.{Request}
+use Rattle.records.specs.declared.Reading.{Reading}
+use Rattle.records.specs.declared.Reading.the-variants.{Got}
+use Rattle.records.specs.declared.Record.{Record}
+use Rattle.records.specs.declared.Record.the-variants as kind
+use Rattle.records.specs.Tests.{first-passed}
+use Rattle.records.specs.Records.{requestIn, requestRow, requestRecordAt, answer-got}
 use Rattle.reader.specs.declared.requests.Orders.{Orders}
 use Rattle.reader.specs.Says.{plain, noRequest}
-use Rattle.reader.specs.Tests.{first-passed}
-use Rattle.reader.specs.Records.{requestIn, requestRow, requestRecordAt, answer-got}
 use Rattle.reader.specs.Series.{Series, SoFar, InList, isGot, accepted, so-far-more}
 
 abbrev pub requestSeries : List ℕ → (before nodes : ℕ) → Series Request B.Request

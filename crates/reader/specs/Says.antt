@@ -5,8 +5,8 @@ use Prim.Native.Nat.{ℕ, _≤_}
 use lib.ListN.{length, take}
 use Rattle.book.specs.Book as B
 use Rattle.book.specs.Reading.{Outcome, done, refused, reading}
-use Rattle.reader.specs.declared.Network.{Network}
-use Rattle.reader.specs.declared.Request.{Request}
+use Rattle.records.specs.declared.Network.{Network}
+use Rattle.records.specs.declared.Request.{Request}
 use Rattle.reader.specs.declared.Taken.{Taken}
 use Rattle.reader.specs.declared.Answer.{Answer}
 use Rattle.reader.specs.declared.Answer.the-variants.{Accepted, Refused}

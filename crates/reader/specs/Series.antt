@@ -13,20 +13,17 @@ use lib.ListN.{length, getD, set, length-set}
 use lib.Seq.{getD-set-same, getD-set-other}
 use lib.Dec.{T, eqb, T-not}
 use Rattle.sums.specs.Each.{of-yes}
-use Rattle.reader.specs.declared.Network.{Network}
-use Rattle.reader.specs.declared.Refusal.{Refusal}
-use Rattle.reader.specs.declared.Reading.{Reading}
-use Rattle.reader.specs.declared.Reading.the-variants as reading
+use Rattle.records.specs.declared.Network.{Network}
+use Rattle.records.specs.declared.Refusal.{Refusal}
+use Rattle.records.specs.declared.Reading.{Reading}
+use Rattle.records.specs.declared.Reading.the-variants as reading
+use Rattle.records.specs.Records.{refusalOf}
 use Rattle.reader.specs.declared.Answer.{Answer}
 use Rattle.reader.specs.declared.Answer.the-variants as answer
 
 abbrev pub isGot : Reading → Bool
 isGot (reading.Got r) = true
 isGot (reading.Refused refusal) = false
-
-abbrev pub refusalOf : Reading → Refusal
-refusalOf (reading.Got r) = record { number = 0; place = 0 }
-refusalOf (reading.Refused refusal) = refusal
 
 abbrev pub accepted : Answer → Bool
 accepted (answer.Accepted net) = true

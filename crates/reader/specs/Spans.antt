@@ -5,14 +5,14 @@ use Prim.Native.Nat.{ℕ, _+_, _-_, _≤_, _<_}
 use native.Mathlib.Omega.{arith}
 use lib.ListN.{set}
 use Rattle.book.specs.Refusals.{limitIn}
-use Rattle.reader.specs.declared.Network.{Network}
-use Rattle.reader.specs.declared.Span.{Span}
-use Rattle.reader.specs.declared.Reading.{Reading}
-use Rattle.reader.specs.declared.Reading.the-variants.{Got}
-use Rattle.reader.specs.declared.Record.{Record}
-use Rattle.reader.specs.declared.Record.the-variants as kind
+use Rattle.records.specs.declared.Network.{Network}
+use Rattle.records.specs.declared.Span.{Span}
+use Rattle.records.specs.declared.Reading.{Reading}
+use Rattle.records.specs.declared.Reading.the-variants.{Got}
+use Rattle.records.specs.declared.Record.{Record}
+use Rattle.records.specs.declared.Record.the-variants as kind
+use Rattle.records.specs.Records.{spanIn, spanRow, spanRecordAt, answer-got}
 use Rattle.reader.specs.declared.spans.Limits.{Limits}
-use Rattle.reader.specs.Records.{spanIn, spanRow, spanRecordAt, answer-got}
 use Rattle.reader.specs.Series.{Series, SoFar, InList, isGot, so-far-more}
 
 abbrev pub spanSeries : List ℕ → ℕ → Series ℕ ℕ

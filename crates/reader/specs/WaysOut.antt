@@ -16,16 +16,16 @@ use Rattle.book.specs.Reading.{done, refused, due, bookOf, faultyRecord, readin
 use Rattle.book.specs.Laws.{unbroken, clean-read, span-looked-at, present-looked-at}
 use Rattle.book.specs.Means.{not-so}
 use Rattle.book.specs.InWords.{Row3, Row5, row-3, row-5}
-use Rattle.reader.specs.declared.Network.{Network}
-use Rattle.reader.specs.declared.Refusal.{Refusal}
-use Rattle.reader.specs.declared.Reading.{Reading}
-use Rattle.reader.specs.declared.Reading.the-variants.{Got, Refused}
-use Rattle.reader.specs.declared.Record.{Record}
-use Rattle.reader.specs.declared.Record.the-variants as kind
-use Rattle.reader.specs.Parts.{records-part}
-use Rattle.reader.specs.Records.{answer, networkIn, networkRow, networkRecordAt, spanRecordAt, requestRecordAt, answer-refused, answer-got}
+use Rattle.records.specs.declared.Network.{Network}
+use Rattle.records.specs.declared.Refusal.{Refusal}
+use Rattle.records.specs.declared.Reading.{Reading}
+use Rattle.records.specs.declared.Reading.the-variants.{Got, Refused}
+use Rattle.records.specs.declared.Record.{Record}
+use Rattle.records.specs.declared.Record.the-variants as kind
+use Rattle.records.specs.Parts.{records-part}
+use Rattle.records.specs.Records.{answer, networkIn, networkRow, networkRecordAt, spanRecordAt, requestRecordAt, answer-refused, answer-got}
+use Rattle.records.specs.Rows.{network-row, span-row, request-row}
 use Rattle.reader.specs.Series.{AllGot, Stopped, isGot}
-use Rattle.reader.specs.Rows.{network-row, span-row, request-row}
 
 -- ---- one record
 

@@ -11,21 +11,21 @@ use Rattle.sums.specs.Table.{table, length-table, table-at}
 use Rattle.book.specs.Book as B
 use Rattle.book.specs.Refusals.{start, records, shapeIn, nodesIn, channelsIn, spansIn, limitIn}
 use Rattle.book.specs.Reading.{done, refused, requestOf, bookOf, reading}
-use Rattle.reader.specs.declared.Network.{Network}
-use Rattle.reader.specs.declared.Refusal.{Refusal}
-use Rattle.reader.specs.declared.Request.{Request}
-use Rattle.reader.specs.declared.Reading.{Reading}
-use Rattle.reader.specs.declared.Reading.the-variants.{Got}
-use Rattle.reader.specs.declared.Record.{Record}
-use Rattle.reader.specs.declared.Record.the-variants as kind
+use Rattle.records.specs.declared.Network.{Network}
+use Rattle.records.specs.declared.Refusal.{Refusal}
+use Rattle.records.specs.declared.Request.{Request}
+use Rattle.records.specs.declared.Reading.{Reading}
+use Rattle.records.specs.declared.Reading.the-variants.{Got}
+use Rattle.records.specs.declared.Record.{Record}
+use Rattle.records.specs.declared.Record.the-variants as kind
+use Rattle.records.specs.Parts.{a-part, b-part, profit-part, records-part, part-is}
+use Rattle.records.specs.Records.{networkIn, networkRecordAt}
 use Rattle.reader.specs.declared.Answer.{Answer}
 use Rattle.reader.specs.declared.Answer.the-variants.{Accepted, Refused}
 use Rattle.reader.specs.declared.Taken.{Taken}
 use Rattle.reader.specs.declared.spans.Limits.{Limits}
 use Rattle.reader.specs.declared.requests.Orders.{Orders}
 use Rattle.reader.specs.Says.{Reads, Unread, noRequest, plain, bookFrom, outcomeOf}
-use Rattle.reader.specs.Parts.{a-part, b-part, profit-part, records-part, part-is}
-use Rattle.reader.specs.Records.{networkIn, networkRecordAt}
 use Rattle.reader.specs.Series.{AllGot, InTurn, AllMeant, accepted}
 use Rattle.reader.specs.Spans.{SpansRead, spanSeries}
 use Rattle.reader.specs.Orders.{OrdersRead, requestSeries}

@@ -1,53 +1,17 @@
 // Reading any order book (document 01, "Order book records" and "Refusals by number"): every byte list is accepted or refused with a fixed
 // number and place. One pass, no copy of the file, nothing assumed of it.
 ghost use Rattle.reader.specs.Says.{Reads, Unread};
-use crate::records::Due;
+use records::Due;
+use records::Network;
+use records::Reading;
+use records::Record;
+use records::Refusal;
+use records::Request;
+use records::shapes;
+use records::view;
 
-pub mod bytes;
-mod judge;
-mod records;
 mod requests;
-pub mod shapes;
 mod spans;
-mod view;
-
-// A refusal: its number in the table of document 01, and its place.
-pub struct Refusal {
-    pub number: usize,
-    pub place: usize,
-}
-
-// The fields of the three kinds of record.
-pub struct Network {
-    pub shape: usize,
-    pub nodes: usize,
-    pub channels: usize,
-}
-
-pub struct Span {
-    pub number: usize,
-    pub limit: usize,
-}
-
-pub struct Request {
-    pub number: usize,
-    pub a: usize,
-    pub b: usize,
-    pub profit: usize,
-}
-
-// A record is a network, a span or a request, and nothing else.
-pub enum Record {
-    Network(Network),
-    Span(Span),
-    Request(Request),
-}
-
-// What reading one record comes to.
-pub enum Reading {
-    Got(Record),
-    Refused(Refusal),
-}
 
 // What reading a book comes to.
 pub enum Answer {

@@ -4,14 +4,13 @@ ghost use Prim.Native.Nat.{_≤_};
 ghost use Rattle.reader.specs.Says.{noRequest};
 ghost use Rattle.reader.specs.Orders.{OrdersRead};
 use crate::Answer;
-use crate::Network;
-use crate::Reading;
-use crate::Record;
-use crate::Refusal;
-use crate::Request;
-use crate::records;
-use crate::records::Due;
-use crate::view;
+use records::Due;
+use records::Network;
+use records::Reading;
+use records::Record;
+use records::Refusal;
+use records::Request;
+use records::view;
 
 // The requests, of which the first `count` count where the answer is `Accepted`.
 pub struct Orders {

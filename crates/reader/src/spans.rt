@@ -2,13 +2,12 @@
 ghost use Prim.Native.Nat.{_≤_};
 ghost use Rattle.reader.specs.Spans.{SpansRead};
 use crate::Answer;
-use crate::Network;
-use crate::Reading;
-use crate::Record;
-use crate::Refusal;
-use crate::records;
-use crate::records::Due;
-use crate::view;
+use records::Due;
+use records::Network;
+use records::Reading;
+use records::Record;
+use records::Refusal;
+use records::view;
 
 // The limits, one a span, which count where the answer is `Accepted`.
 pub struct Limits {

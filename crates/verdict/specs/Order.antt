@@ -18,7 +18,7 @@ use Rattle.rules.specs.Prices.{verdict}
 use Rattle.rules.specs.Operations.{tooShort, tooDear, checking}
 use Rattle.lines.specs.Line.{Line}
 use Rattle.lines.specs.Ways.{line-spans}
-use Rattle.reader.specs.declared.Network.{Network}
+use Rattle.records.specs.declared.Network.{Network}
 use Rattle.columns.specs.Seam.{HeldBook}
 use Rattle.verdict.specs.CanCheck.{CanCheck}
 use Rattle.verdict.specs.WaysOut as W

@@ -16,7 +16,7 @@ mod totals;
 pub enum Checked {
     Yes,
     No,
-    Refused(reader::Refusal),
+    Refused(records::Refusal),
 }
 
 // Whether the plan obeys the rules and its earnings equal the ceiling of the prices.
@@ -42,7 +42,7 @@ fn weigh(
 
 // Checks a plan for an accepted book: 14 for a ring, then 12, then 13, and only then yes or no.
 fn check_book(
-    network: reader::Network,
+    network: records::Network,
     limits: &[usize; 64],
     count: usize,
     a: &[usize; 256],
@@ -55,21 +55,21 @@ fn check_book(
     ensures { λ r. ⌜ ((h : HeldBook network count (now (limits .entry)) (now (a .entry)) (now (b .entry)) (now (profits .entry))) → checkedOf r ≡ checking (h .book) (now (entries .entry)) (now (prices .entry))) ⌝ }
 {
     if network.shape == 2 {
-        return Checked::Refused(reader::Refusal {
+        return Checked::Refused(records::Refusal {
             number: 14,
             place: 0,
         });
     }
     let spans = network.nodes - 1;
     if places::too_short(count, spans, entries, prices) {
-        return Checked::Refused(reader::Refusal {
+        return Checked::Refused(records::Refusal {
             number: 12,
             place: 0,
         });
     }
     let dear = places::dear(prices, spans);
     if dear < spans {
-        return Checked::Refused(reader::Refusal {
+        return Checked::Refused(records::Refusal {
             number: 13,
             place: dear,
         });
@@ -93,7 +93,7 @@ fn check_book(
 
 // Checks a plan for an accepted book whose requests are columns.
 fn check_held(
-    network: reader::Network,
+    network: records::Network,
     limits: [usize; 64],
     count: usize,
     cols: columns::RequestColumns,
@@ -111,9 +111,9 @@ fn check_held(
 
 // Checks a plan for an accepted book whose requests are lent.
 fn check_lent(
-    network: reader::Network,
+    network: records::Network,
     limits: [usize; 64],
-    requests: &[reader::Request],
+    requests: &[records::Request],
     count: usize,
     entries: &[u8],
     prices: &[u8],
@@ -127,9 +127,9 @@ fn check_lent(
 
 // The same for the list that the reader hands on: here it is lent.
 fn check_accepted(
-    network: reader::Network,
+    network: records::Network,
     limits: [usize; 64],
-    requests: [reader::Request; 256],
+    requests: [records::Request; 256],
     count: usize,
     entries: &[u8],
     prices: &[u8],

@@ -13,7 +13,7 @@ pub fn price_at(prices: &[u8], s: usize) -> usize
     requires { ⌜ 4 * s + 4 ≤ length (now prices) ⌝ }
     ensures { λ r. ⌜ r ≡ priceIn (now (prices .entry)) s ⌝ }
 {
-    reader::bytes::four(prices, 4 * s)
+    records::bytes::four(prices, 4 * s)
 }
 
 // Whether the entry list has too few places for the requests, or the price list for the spans (refusal 12).

@@ -47,10 +47,10 @@ use denote.Triple.Spec.{Meets, tripleOf}
 use denote.Triple.Table.{entered}
 use denote.Triple.Walked.{says, needs, Stays, stay-none, stay-none-slice, walkOf, goes-none, goes-none-slice, Walks, ends-at, walked, walk-meets}
 use denote.Exit.{yes}
-use Rattle.reader.specs.declared.Request.{Request}
+use Rattle.records.specs.declared.Request.{Request}
 use Rattle.reader.specs.Says.{noRequest}
-use Rattle.reader.proofs.Request as Q
-use Rattle.reader.proofs.Request.Laws as Q′
+use Rattle.records.proofs.Request as Q
+use Rattle.records.proofs.Request.Laws as Q′
 use Rattle.columns.specs.Columned.{Columned, CanColumn, Filling, filling-none, filling-more, request}
 use Rattle.columns.specs.Lending.{arrayTy}
 use Rattle.columns.specs.declared.RequestColumns.{RequestColumns}

@@ -1,0 +1,92 @@
+-- The tests of one record, from its fields and from what they must agree with: a line for each clause of its rows in document 01's table, lowest
+-- row first. Assumes nothing.
+use mathlib.Core.Path.{_≡_}
+use mathlib.Core.Bool.{Bool, true, false, not, _||_}
+use mathlib.Core.List.{List, [], _∷_}
+use mathlib.Core.Logic.{_⊎_, inl, inr, ⊎-elim}
+use Prim.Native.Nat.{ℕ, _%_, _<_, _≤_}
+use native.Mathlib.Omega.{arith}
+use borrow.Author.Tests.{lt-ltb, le-ltb, eq-eqb, ne-eqb}
+use lib.Dec.{ltb, eqb}
+use Rattle.sums.specs.Each.{less-or-not, same-or-not}
+use Rattle.book.specs.Means as M
+use Rattle.records.specs.declared.Network.{Network}
+use Rattle.records.specs.declared.Span.{Span}
+use Rattle.records.specs.declared.Request.{Request}
+use Rattle.records.specs.Tests.{Test, _⇒_, found, passed, none}
+use Rattle.records.specs.Shapes.{known, fewest}
+
+-- row 1, by the byte count
+unfoldable pub wrongCount : ℕ → Bool
+wrongCount bytes = eqb bytes 0 || not (eqb (bytes % 16) 0) || ltb 5136 bytes
+
+-- so a right count is that of one record or more
+pub one-record : (bytes : ℕ) → wrongCount bytes ≡ false → 16 ≤ bytes
+unfolding wrongCount
+one-record bytes e = ⊎-elim (λ h. absurd (right (few h))) (λ h. h) (less-or-not bytes 16)
+  where
+    right : (bytes ≡ 0) ⊎ (bytes % 16 ≡ 0 → ⊥) ⊎ (5136 < bytes) → ⊥
+    right = M.not-so (M.or₃ M.same (M.is-not M.same) M.less) .0 e
+
+    few : bytes < 16 → (bytes ≡ 0) ⊎ (bytes % 16 ≡ 0 → ⊥) ⊎ (5136 < bytes)
+    few h = ⊎-elim (λ z. inl z) (λ n. inr (inl (λ m. n (omega arith)))) (same-or-not bytes 0)
+
+-- the network, whose byte count was right
+abbrev pub networkTests : (kind : ℕ) → Network → Bool → List Test
+networkTests kind network rest =
+    (not (eqb kind 1) ⇒ 2)
+    ∷ (not (known (network .shape)) ⇒ 2)
+    ∷ (not rest ⇒ 2)
+    ∷ (ltb (network .nodes) (fewest (network .shape)) ⇒ 3)
+    ∷ (ltb 64 (network .nodes) ⇒ 3)
+    ∷ (eqb (network .channels) 0 ⇒ 4)
+    ∷ (ltb 96 (network .channels) ⇒ 4)
+    ∷ []
+
+-- the span numbered `due` of a network of so many channels
+abbrev pub spanTests : (due channels kind mark : ℕ) → Span → Bool → List Test
+spanTests due channels kind mark span rest =
+    (not (eqb kind 2) ⇒ 5)
+    ∷ (not (eqb (span .number) due) ⇒ 5)
+    ∷ (not rest ⇒ 5)
+    ∷ (not (eqb mark 1) ⇒ 6)
+    ∷ (ltb channels (span .limit) ⇒ 7)
+    ∷ []
+
+-- the request numbered `due` of a network of so many nodes
+abbrev pub requestTests : (due nodes kind mark : ℕ) → Request → Bool → List Test
+requestTests due nodes kind mark q rest =
+    (ltb 255 due ⇒ 8)
+    ∷ (not (eqb kind 3) ⇒ 9)
+    ∷ (not (eqb mark 0) ⇒ 9)
+    ∷ (not (eqb (q .number) due) ⇒ 9)
+    ∷ (not rest ⇒ 9)
+    ∷ (not (ltb (q .a) nodes) ⇒ 10)
+    ∷ (not (ltb (q .b) nodes) ⇒ 10)
+    ∷ (eqb (q .a) (q .b) ⇒ 10)
+    ∷ (eqb (q .profit) 0 ⇒ 11)
+    ∷ (ltb 1000000 (q .profit) ⇒ 11)
+    ∷ []
+
+-- ---- from what the code's tests say to the flags above: what `search` is handed where a judge returns
+
+pub same : (a b : ℕ) → a ≡ b → not (eqb a b) ≡ false
+same a b h = rw (eq-eqb a b h)
+
+pub other : (a b : ℕ) → (a ≡ b → ⊥) → not (eqb a b) ≡ true
+other a b h = rw (ne-eqb a b h)
+
+pub less : (a b : ℕ) → a < b → not (ltb a b) ≡ false
+less a b h = rw (lt-ltb a b h)
+
+pub no-less : (a b : ℕ) → b ≤ a → not (ltb a b) ≡ true
+no-less a b h = rw (le-ltb a b h)
+
+-- the same of what a callee answered
+pub of-known : (shape : ℕ) (s t : Bool) → s ≡ known shape → not s ≡ t → not (known shape) ≡ t
+of-known shape s t e h = rw (← e) h
+
+pub of-fewest : (shape n m : ℕ) (t : Bool) → m ≡ fewest shape → ltb n m ≡ t → ltb n (fewest shape) ≡ t
+of-fewest shape n m t e h = rw (← e) h
+
+pub ruleset tests = (found, passed, none, same, other, less, no-less, lt-ltb, le-ltb, eq-eqb, ne-eqb, of-known, of-fewest)

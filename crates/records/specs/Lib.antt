@@ -1,0 +1,8 @@
+pub mod Blank
+pub mod Shapes
+pub mod Tests
+pub mod Judged
+pub mod Records
+pub mod Due
+pub mod Parts
+pub mod Rows

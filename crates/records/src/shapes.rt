@@ -1,0 +1,34 @@
+// The shapes of a network (document 01, "What the desk plans"): 1 is a line, 2 a ring.
+ghost use mathlib.Core.Path.{_≡_};
+ghost use Rattle.book.specs.Book.{spansOf};
+ghost use Rattle.records.specs.Shapes as S;
+
+// Whether there is such a shape.
+pub fn known(shape: usize) -> bool
+    ensures { λ r. ⌜ r ≡ S.known shape ⌝ }
+{
+    shape == 1 || shape == 2
+}
+
+// The fewest nodes that it may have.
+pub fn fewest(shape: usize) -> usize
+    ensures { λ r. ⌜ r ≡ S.fewest shape ⌝ }
+{
+    if shape == 2 {
+        return 3;
+    }
+    2
+}
+
+// How many spans join so many nodes.
+pub fn spans_of(shape: usize, nodes: usize) -> usize
+    ensures { λ r. ⌜ r ≡ spansOf shape nodes ⌝ }
+{
+    if shape == 2 {
+        return nodes;
+    }
+    if nodes == 0 {
+        return 0;
+    }
+    nodes - 1
+}
