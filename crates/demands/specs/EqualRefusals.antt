@@ -4,11 +4,15 @@ use mathlib.Core.List.{List}
 use mathlib.Core.Path.{_≡_, refl, sym, ap₂, _∙_}
 use Prim.Native.Nat.{ℕ}
 use native.Mathlib.Omega.{arith}
-use Rattle.book.specs.Reading.{refused}
+use Rattle.book.specs.Reading.{refused, reading}
 use Rattle.rules.specs.Operations.{plannable, checker}
 use Rattle.records.specs.declared.Refusal.{Refusal}
+use Rattle.records.specs.declared.Request.{Request}
 use Rattle.reader.specs.declared.Taken.{Taken}
+use Rattle.reader.specs.declared.Answer as Reader
+use Rattle.reader.specs.declared.Answer.the-variants as Readers
 use Rattle.reader.specs.Says.{outcomeOf, Reads}
+use Rattle.reader.specs.Accepted.{refused-read}
 use Rattle.verdict.specs.declared.Checked.{Checked}
 use Rattle.verdict.specs.declared.Checked.the-variants.{Yes, No, Refused}
 use Rattle.verdict.specs.Checked.{checkedOf}
@@ -23,6 +27,28 @@ pub read-equal :
     {file : List ℕ} {taken other : Taken} → Reads file taken → Reads file other
     → outcomeOf (taken .answer) (taken .limits) (taken .count) (taken .requests) ≡ outcomeOf (other .answer) (other .limits) (other .count) (other .requests)
 read-equal p q = p .says ∙ sym (q .says)
+
+-- and where one is refused, all that stands beside the answer is the same too
+same-refusal : (answer : Reader.Answer) {limits : List ℕ} {count n p : ℕ} {requests : List Request} → outcomeOf answer limits count requests ≡ refused n p → answer ≡ Readers.Refused (record { number = n; place = p })
+unfolding outcomeOf
+same-refusal (Readers.Accepted net) is = let z : _≡_ {A = ℕ} 0 1 = cc in absurd (omega arith)
+same-refusal (Readers.Refused refusal) {n} {p} is =
+    let number : refusal .number ≡ n = cc in
+    let place : refusal .place ≡ p = cc in
+    ap₂ (λ n p. Readers.Refused (record { number = n; place = p })) number place
+
+pub read-refusal-equal : {file : List ℕ} {taken other : Taken} {refusal : Refusal} → Reads file taken → Reads file other → taken .answer ≡ Readers.Refused refusal → taken ≡ other
+read-refusal-equal {file} {taken} {other} {refusal} p q e =
+    let is : reading file ≡ refused (refusal .number) (refusal .place) = refused-read p e in
+    let its : other .answer ≡ Readers.Refused refusal = same-refusal (other .answer) (q .says ∙ is) in
+    let x = p .refusing refusal e in
+    let y = q .refusing refusal its in
+    let answer : taken .answer ≡ other .answer = e ∙ sym its in
+    let limits : taken .limits ≡ other .limits = x .no-limits ∙ sym (y .no-limits) in
+    let count : taken .count ≡ other .count = x .no-count ∙ sym (y .no-count) in
+    let requests : taken .requests ≡ other .requests = x .no-requests ∙ sym (y .no-requests) in
+    let all : _≡_ {A = Taken} (record { answer = taken .answer; limits = taken .limits; count = taken .count; requests = taken .requests }) other = rw (answer, limits, count, requests) in
+    all
 
 -- the checker: the same answer, a refusal with its number and place included
 same-checked : (c d : Checked) → checkedOf c ≡ checkedOf d → c ≡ d

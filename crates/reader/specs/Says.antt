@@ -2,10 +2,11 @@
 use mathlib.Core.Path.{_≡_}
 use mathlib.Core.List.{List, map}
 use Prim.Native.Nat.{ℕ, _≤_}
-use lib.ListN.{length, take}
+use lib.ListN.{length, take, replicate}
 use Rattle.book.specs.Book as B
 use Rattle.book.specs.Reading.{Outcome, done, refused, reading}
 use Rattle.records.specs.declared.Network.{Network}
+use Rattle.records.specs.declared.Refusal.{Refusal}
 use Rattle.records.specs.declared.Request.{Request}
 use Rattle.reader.specs.declared.Taken.{Taken}
 use Rattle.reader.specs.declared.Answer.{Answer}
@@ -34,14 +35,20 @@ unfoldable pub outcomeOf : Answer → List ℕ → ℕ → List Request → Outc
 outcomeOf (Accepted net) limits count requests = done (bookFrom net limits count requests)
 outcomeOf (Refused refusal) limits count requests = refused (refusal .number) (refusal .place)
 
--- the reader's promise: its answer is the reading of document 01
+-- nothing stands beside the answer: no limit but 0, no request
+pub record Nothing (taken : Taken) : Type 0 where
+  pub no-limits : taken .limits ≡ replicate 64 0
+  pub no-count : taken .count ≡ 0
+  pub no-requests : taken .requests ≡ replicate 256 noRequest
+
+-- the reader's promise: its answer is the reading of document 01, and of a refused book nothing is handed on
 pub record Reads (file : List ℕ) (taken : Taken) : Type 0 where
   pub says : outcomeOf (taken .answer) (taken .limits) (taken .count) (taken .requests) ≡ reading file
+  pub refusing : (refusal : Refusal) → taken .answer ≡ Refused refusal → Nothing taken
   pub counted : taken .count ≤ 256
   pub sized : length (taken .requests) ≡ 256
 
 -- nothing was read, and this is why
 pub record Unread (answer : Answer) (taken : Taken) : Type 0 where
   pub because : taken .answer ≡ answer
-  pub counted : taken .count ≡ 0
-  pub sized : length (taken .requests) ≡ 256
+  pub nothing : Nothing taken

@@ -5,7 +5,7 @@ use mathlib.Core.Bool.{true}
 use mathlib.Core.List.{List, map, map-id}
 use Prim.Native.Nat.{ℕ, _+_, _-_, _*_, _≤_, _<_}
 use native.Mathlib.Omega.{arith}
-use lib.ListN.{length, getD, take, drop, length-map, List·getD-map}
+use lib.ListN.{length, getD, take, drop, length-map, List·getD-map, length-replicate}
 use lib.Seq.{getD-take, ext-getD, length-take-le}
 use Rattle.sums.specs.Table.{table, length-table, table-at}
 use Rattle.book.specs.Book as B
@@ -87,7 +87,13 @@ pub not-read :
     (f : List ℕ) (answer : Answer) (taken : Taken) (refusal : Refusal)
     → Unread answer taken → answer ≡ Refused refusal → reading f ≡ refused (refusal .number) (refusal .place) → Reads f taken
 unfolding outcomeOf
-not-read f answer taken refusal u e r = record { says = rw (u .because, e) (sym r); counted = omega arith; sized = u .sized }
+not-read f answer taken refusal u e r =
+    record {
+      says = rw (u .because, e) (sym r);
+      refusing = λ _ _. u .nothing;
+      counted = omega (arith, u .nothing .no-count);
+      sized = rw (u .nothing .no-requests) (length-replicate 256 noRequest);
+    }
 
 -- the network was got, and has n spans
 pub record Begun (f : List ℕ) (network : Network) (n : ℕ) : Type 0 where
@@ -122,37 +128,34 @@ module _ (f : List ℕ) (network : Network) (n : ℕ) (so-far : Begun f network 
     unfolding start
     part-starts = omega (arith, part-there f head all-spans)
 
-    pub book-read :
-        (orders : Orders)
-        → OrdersRead (take (length f - 16 * (1 + n)) (drop (16 * (1 + n)) f)) (1 + n) network orders
-        → Reads f (record { answer = orders .answer; limits = limits .limits; count = orders .count; requests = orders .requests })
-    unfolding outcomeOf start
-    book-read orders o =
-        record {
-          says = by (orders .answer) (requests-read .inList .turn) (requests-read .inList .filled) (requests-read .all);
-          counted = o .within;
-          sized = o .inList .sized;
-        }
-      where
-        b : ℕ
-        b = 1 + spansIn f
+    module _ (orders : Orders) (o : OrdersRead (take (length f - 16 * (1 + n)) (drop (16 * (1 + n)) f)) (1 + n) network orders) where
+      -- the requests, read in the part that follows the spans, for the network that the file has
+      requests-read : OrdersRead (afterSpans f) (1 + spansIn f) (networkIn f) orders
+      unfolding start
+      requests-read =
+          subst (λ (m : ℕ). OrdersRead (drop (start (1 + m)) f) (1 + m) (networkIn f) orders) n-is
+          (subst (λ (t : Network). OrdersRead (drop (start (1 + n)) f) (1 + n) t orders) is
+          (subst (λ (p : List ℕ). OrdersRead p (1 + n) network orders) (part-is f (16 * (1 + n))) o))
 
-        -- the requests, read in the part that follows the spans, for the network that the file has
-        requests-read : OrdersRead (afterSpans f) b (networkIn f) orders
-        requests-read =
-            subst (λ (m : ℕ). OrdersRead (drop (start (1 + m)) f) (1 + m) (networkIn f) orders) n-is
-            (subst (λ (t : Network). OrdersRead (drop (start (1 + n)) f) (1 + n) t orders) is
-            (subst (λ (p : List ℕ). OrdersRead p (1 + n) network orders) (part-is f (16 * (1 + n))) o))
+      pub refused-in-requests : (refusal : Refusal) → orders .answer ≡ Refused refusal → reading f ≡ refused (refusal .number) (refusal .place)
+      refused-in-requests refusal r = requests-refused f head all-spans refusal (rw r at (requests-read .inList .turn))
 
-        by :
-            (a : Answer)
-            → InTurn (requestSays f) (records (afterSpans f)) (networkIn f) a
-            → (accepted a ≡ true → AllMeant (requestSeries (afterSpans f) b (nodesIn f)) (orders .requests) (records (afterSpans f)))
-            → (accepted a ≡ true → orders .count ≡ records (afterSpans f))
-            → outcomeOf a (limits .limits) (orders .count) (orders .requests) ≡ reading f
-        by (Accepted t) w filled all =
-            rw (w .0, all refl)
-            (ap done
-            (book-is f (limits .limits) (orders .requests) (omega (arith, head .most, spans-read .sized)) (spans-read .filled (ap accepted e)) (omega (arith, all refl, o .within, o .inList .sized)) (filled refl))
-            ∙ sym (all-clean f head all-spans (w .1)))
-        by (Refused refusal) stop filled all = sym (requests-refused f head all-spans refusal stop)
+      pub book-read : (t : Network) → orders .answer ≡ Accepted t → Reads f (record { answer = orders .answer; limits = limits .limits; count = orders .count; requests = orders .requests })
+      unfolding outcomeOf
+      book-read t a =
+          record {
+            says =
+                rw (a, turn .0, all)
+                (ap done
+                (book-is f (limits .limits) (orders .requests) (omega (arith, head .most, spans-read .sized)) (spans-read .filled (ap accepted e)) (omega (arith, all, o .within, o .inList .sized)) (requests-read .inList .filled (ap accepted a)))
+                ∙ sym (all-clean f head all-spans (turn .1)));
+            refusing = λ refusal r. let z : _≡_ {A = ℕ} 0 1 = cc in absurd (omega arith);
+            counted = o .within;
+            sized = o .inList .sized;
+          }
+        where
+          turn : InTurn (requestSays f) (records (afterSpans f)) (networkIn f) (Accepted t)
+          turn = rw a at (requests-read .inList .turn)
+
+          all : orders .count ≡ records (afterSpans f)
+          all = requests-read .all (ap accepted a)

@@ -67,6 +67,9 @@ pub fn read_book(file: &[u8]) -> Taken
     let at = 16 * before;
     let orders = requests::read_requests(&file[at..], before, network);
     let answer = orders.answer;
+    let Answer::Accepted(_) = answer else {
+        return nothing(answer);
+    };
     let requests = orders.requests;
     Taken {
         answer,

@@ -1,5 +1,5 @@
--- `reader::read_book` meets its contract. Each way out is one law: the network refused, a span refused, or the requests read in the part that
--- follows the spans, whose answer is the book's. Assumes nothing.
+-- `reader::read_book` meets its contract. Each way out is one law: the network refused, a span refused, a request refused, or all requests read in
+-- the part that follows the spans. Assumes nothing.
 use mathlib.Core.Path.{refl, sym, _∙_}
 use Prim.Native.Nat.{_+_, _*_, _≤_}
 use native.Mathlib.Omega.{arith}
@@ -7,7 +7,7 @@ use denote.Ref.{now}
 use lib.ListN.{length}
 use Rattle.reader.specs.Series.{the-refusal, no-other}
 use Rattle.reader.specs.WaysOut.{network-refused, got-network}
-use Rattle.reader.specs.Whole.{Begun, begun, not-read, refused-in-spans, part-starts, book-read}
+use Rattle.reader.specs.Whole.{Begun, begun, not-read, refused-in-spans, part-starts, refused-in-requests, book-read}
 use borrow.Author.Needs.{needs}
 use Rattle.reader.proofs.read_book.Statement.{statement}
 use Rattle.reader.proofs.read_book.Tie as tie
@@ -70,9 +70,19 @@ read-requests-requires c κs = omega (arith, at-most (c .before .before .before 
 
 returns-4 : tie.Need-returns-4
 returns-4 c =
-    let told = c .before .before .before .before in
+    let asked = c .before .before .before in
+    let told = asked .before .before .before in
     let call = told .before .before in
-    book-read _ _ _ (counted (call .before)) _ (call .read-spans .ensures) _ (told .enum-told2 .given .1) _ (c .before .read-requests .ensures)
+    let refused = c .before .enum-told5 .given .1 in
+    not-read _ _ _ _ (c .nothing4 .ensures) refused
+    (refused-in-requests _ _ _ (counted (call .before)) _ (call .read-spans .ensures) _ (told .enum-told2 .given .1) _ (asked .read-requests .ensures) _ refused)
+
+returns-5 : tie.Need-returns-5
+returns-5 c =
+    let asked = c .before .before .before in
+    let told = asked .before .before .before in
+    let call = told .before .before in
+    book-read _ _ _ (counted (call .before)) _ (call .read-spans .ensures) _ (told .enum-told2 .given .1) _ (asked .read-requests .ensures) _ (c .before .enum-told4 .given .1)
 
 pub read-book-spec : {M : Type 1} → statement M
 read-book-spec =
@@ -99,4 +109,8 @@ read-book-spec =
     part-read-requests-start
     (λ c. search needs)
     read-requests-requires
-    returns-4)
+    (λ c. search needs)
+    (λ c. search needs)
+    (λ c κs. search needs)
+    returns-4
+    returns-5)
