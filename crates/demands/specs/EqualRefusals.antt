@@ -29,10 +29,12 @@ pub read-equal :
 read-equal p q = p .says ∙ sym (q .says)
 
 -- and where one is refused, all that stands beside the answer is the same too
-same-refusal : (answer : Reader.Answer) {limits : List ℕ} {count n p : ℕ} {requests : List Request} → outcomeOf answer limits count requests ≡ refused n p → answer ≡ Readers.Refused (record { number = n; place = p })
+same-refusal :
+    (answer : Reader.Answer) (limits : List ℕ) (count : ℕ) (requests : List Request) {n p : ℕ} → outcomeOf answer limits count requests ≡ refused n p
+    → answer ≡ Readers.Refused (record { number = n; place = p })
 unfolding outcomeOf
-same-refusal (Readers.Accepted net) is = let z : _≡_ {A = ℕ} 0 1 = cc in absurd (omega arith)
-same-refusal (Readers.Refused refusal) {n} {p} is =
+same-refusal (Readers.Accepted net) limits count requests is = let z : _≡_ {A = ℕ} 0 1 = cc in absurd (omega arith)
+same-refusal (Readers.Refused refusal) limits count requests {n} {p} is =
     let number : refusal .number ≡ n = cc in
     let place : refusal .place ≡ p = cc in
     ap₂ (λ n p. Readers.Refused (record { number = n; place = p })) number place
@@ -40,7 +42,7 @@ same-refusal (Readers.Refused refusal) {n} {p} is =
 pub read-refusal-equal : {file : List ℕ} {taken other : Taken} {refusal : Refusal} → Reads file taken → Reads file other → taken .answer ≡ Readers.Refused refusal → taken ≡ other
 read-refusal-equal {file} {taken} {other} {refusal} p q e =
     let is : reading file ≡ refused (refusal .number) (refusal .place) = refused-read p e in
-    let its : other .answer ≡ Readers.Refused refusal = same-refusal (other .answer) (q .says ∙ is) in
+    let its : other .answer ≡ Readers.Refused refusal = same-refusal (other .answer) (other .limits) (other .count) (other .requests) (q .says ∙ is) in
     let x = p .refusing refusal e in
     let y = q .refusing refusal its in
     let answer : taken .answer ≡ other .answer = e ∙ sym its in
