@@ -17,7 +17,7 @@ size_t rent(size_t spans, const size_t *limits, const size_t *prices, size_t *to
 }
 
 // The sum of prices on the spans between two nodes.
-size_t cost_of(size_t a, size_t b, const size_t *toll) { return a < b ? toll[b] - toll[a] : toll[a] - toll[b]; }
+size_t fare_of(size_t a, size_t b, const size_t *toll) { return a < b ? toll[b] - toll[a] : toll[a] - toll[b]; }
 
 size_t gain(size_t profit, size_t cost) { return profit < cost ? 0 : profit - cost; }
 
@@ -25,7 +25,7 @@ size_t gain(size_t profit, size_t cost) { return profit < cost ? 0 : profit - co
 size_t surplus(const Columns &cols, const size_t *toll)
 {
     size_t sum = 0;
-    for (size_t i = 0; i < cols.count; i++) sum += gain(cols.profit[i], cost_of(cols.a[i], cols.b[i], toll));
+    for (size_t i = 0; i < cols.count; i++) sum += gain(cols.profit[i], fare_of(cols.a[i], cols.b[i], toll));
     return sum;
 }
 }  // namespace

@@ -10,14 +10,14 @@ use Rattle.book.specs.Book.{limit, profit}
 use Rattle.book.specs.Columns.{at}
 use Rattle.rules.specs.Prices.{ceiling}
 use Rattle.row.specs.Row as Row
-use Rattle.row.specs.Row.{cost}
-use Rattle.row.specs.Along.{cost-along}
+use Rattle.row.specs.Row.{fare}
+use Rattle.row.specs.Along.{fare-along}
 use Rattle.lines.specs.RowOf.{rowOf}
 use Rattle.lines.specs.Ceiling.{ceiling-row}
 use Rattle.lines.specs.HeldLine.{few-spans, few, a-in, b-in, profit-in, limit-in}
 use Rattle.ceiling.specs.PricedLine.{PricedLine}
 use Rattle.ceiling.specs.Tolls.{Payable, Tolled, rent-upto}
-use Rattle.ceiling.specs.Surplus.{costAt, Tallies}
+use Rattle.ceiling.specs.Surplus.{fareAt, Tallies}
 
 module _ {spans count : ℕ} {limits a b profits prices : List ℕ} (w : PricedLine spans count limits a b profits prices) where
   pub payable : Payable spans limits prices
@@ -25,12 +25,12 @@ module _ {spans count : ℕ} {limits a b profits prices : List ℕ} (w : PricedL
 
   module _ {toll : List ℕ} {rented : ℕ} (tolled : Tolled spans limits (at prices) toll rented) where
     -- the prices on the spans that request i crosses are the tolls between its ends
-    cost-tolls : (i : ℕ) → i < count → cost (rowOf (w .book)) (at prices) i + at toll (min (at a i) (at b i)) ≡ at toll (max (at a i) (at b i))
+    fare-tolls : (i : ℕ) → i < count → fare (rowOf (w .book)) (at prices) i + at toll (min (at a i) (at b i)) ≡ at toll (max (at a i) (at b i))
     unfolding rowOf
-    cost-tolls i l =
+    fare-tolls i l =
         rw (tolled .tolls .is (min (at a i) (at b i)) (omega (arith, a-in (w .held) i l, b-in (w .held) i l)), tolled .tolls .is (max (at a i) (at b i)) (omega (arith, a-in (w .held) i l, b-in (w .held) i l)))
         (rw (w .held .holds .a-is i l, w .held .holds .b-is i l)
-        (cost-along (rowOf (w .book)) (at prices) i (omega arith) (omega (arith, a-in (w .held) i l, b-in (w .held) i l, w .held .holds .a-is i l, w .held .holds .b-is i l, w .held .spans-is))))
+        (fare-along (rowOf (w .book)) (at prices) i (omega arith) (omega (arith, a-in (w .held) i l, b-in (w .held) i l, w .held .holds .a-is i l, w .held .holds .b-is i l, w .held .spans-is))))
 
     pub tallies : Tallies count a b profits toll
     tallies = record {
@@ -38,14 +38,14 @@ module _ {spans count : ℕ} {limits a b profits prices : List ℕ} (w : PricedL
       a-upto = λ i l. omega (arith, a-in (w .held) i l, few-spans (w .held));
       b-upto = λ i l. omega (arith, b-in (w .held) i l, few-spans (w .held));
       profit-upto = profit-in (w .held);
-      rising = λ i l. omega (arith, cost-tolls i l);
+      rising = λ i l. omega (arith, fare-tolls i l);
     }
 
-    module _ {surplus : ℕ} (tallied : surplus ≡ Σ count (λ i. at profits i - costAt a b toll i)) where
-      surplus-are : Σ (Books.count (w .book)) (λ i. profit (w .book) i - cost (rowOf (w .book)) (at prices) i) ≡ surplus
+    module _ {surplus : ℕ} (tallied : surplus ≡ Σ count (λ i. at profits i - fareAt a b toll i)) where
+      surplus-are : Σ (Books.count (w .book)) (λ i. profit (w .book) i - fare (rowOf (w .book)) (at prices) i) ≡ surplus
       surplus-are =
           rw (← w .held .holds .counted)
-          (Σ-ext count _ _ (λ i l. omega (arith, w .held .holds .profit-is i l, cost-tolls i l)) ∙ sym tallied)
+          (Σ-ext count _ _ (λ i l. omega (arith, w .held .holds .profit-is i l, fare-tolls i l)) ∙ sym tallied)
 
       rents : Σ (Books.spans (w .book)) (λ s. limit (w .book) s * at prices s) ≡ rented
       rents =
@@ -65,6 +65,6 @@ module _ {spans count : ℕ} {limits a b profits prices : List ℕ} (w : PricedL
             few-spans (w .held),
             tallied,
             tolled .rent-is,
-            Σ-most count (λ i. at profits i - costAt a b toll i) 1000000 (λ i l. omega (arith, profit-in (w .held) i l)),
+            Σ-most count (λ i. at profits i - fareAt a b toll i) 1000000 (λ i l. omega (arith, profit-in (w .held) i l)),
             Σ-most spans (λ s. at limits s * at prices s) 96000000 (λ s l. rent-upto _ _ (limit-in (w .held) s l) (w .price-upto s l)),
           )

@@ -9,8 +9,8 @@ use Rattle.sums.specs.Turns.{Σ-more}
 use Rattle.book.specs.Columns.{at}
 
 -- the tolls between the two ends of request i
-abbrev pub costAt : List ℕ → List ℕ → List ℕ → ℕ → ℕ
-costAt a b toll i = at toll (max (at a i) (at b i)) - at toll (min (at a i) (at b i))
+abbrev pub fareAt : List ℕ → List ℕ → List ℕ → ℕ → ℕ
+fareAt a b toll i = at toll (max (at a i) (at b i)) - at toll (min (at a i) (at b i))
 
 -- at most 256 requests between nodes, their profits within bounds, and tolls that do not fall
 pub record Tallies (count : ℕ) (a b profits toll : List ℕ) : Type 0 where
@@ -22,7 +22,7 @@ pub record Tallies (count : ℕ) (a b profits toll : List ℕ) : Type 0 where
 
 -- after i requests
 pub record Tallying (i : ℕ) (a b profits toll : List ℕ) (sum : ℕ) : Type 0 where
-  pub sum-is : sum ≡ Σ i (λ j. at profits j - costAt a b toll j)
+  pub sum-is : sum ≡ Σ i (λ j. at profits j - fareAt a b toll j)
   pub small : sum ≤ 1000000 * i
 
 module _ {a b profits toll : List ℕ} where
@@ -31,9 +31,9 @@ module _ {a b profits toll : List ℕ} where
   tallying-none = record { sum-is = refl; small = omega arith }
 
   pub tallying-more :
-      {i sum : ℕ} (gained cost : ℕ) → Tallying i a b profits toll sum → at profits i ≤ 1000000
-      → cost ≡ costAt a b toll i → gained ≡ at profits i - cost → Tallying (i + 1) a b profits toll (sum + gained)
-  tallying-more {i} gained cost was upto ec eg = record {
-    sum-is = omega (arith, was .sum-is, Σ-more i (λ j. at profits j - costAt a b toll j));
+      {i sum : ℕ} (gained fare : ℕ) → Tallying i a b profits toll sum → at profits i ≤ 1000000
+      → fare ≡ fareAt a b toll i → gained ≡ at profits i - fare → Tallying (i + 1) a b profits toll (sum + gained)
+  tallying-more {i} gained fare was upto ec eg = record {
+    sum-is = omega (arith, was .sum-is, Σ-more i (λ j. at profits j - fareAt a b toll j));
     small = omega (arith, was .small);
   }

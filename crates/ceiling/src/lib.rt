@@ -7,7 +7,7 @@ ghost use Rattle.book.specs.Columns.{at};
 ghost use Rattle.rules.specs.Prices.{ceiling};
 ghost use Rattle.ceiling.specs.PricedLine.{PricedLine};
 ghost use Rattle.ceiling.specs.Tolls.{Payable, Tolled};
-ghost use Rattle.ceiling.specs.Surplus.{costAt, Tallies};
+ghost use Rattle.ceiling.specs.Surplus.{fareAt, Tallies};
 
 // The sum over spans of limit × price. On the way toll[v] becomes what the spans below node v cost together.
 fn rent(spans: usize, limits: &[usize; 64], prices: &[usize; 64], toll: &mut [usize; 64]) -> usize
@@ -31,7 +31,7 @@ fn rent(spans: usize, limits: &[usize; 64], prices: &[usize; 64], toll: &mut [us
 }
 
 // The sum of prices on the spans between two nodes.
-fn cost_of(a: usize, b: usize, toll: &[usize; 64]) -> usize
+fn fare_of(a: usize, b: usize, toll: &[usize; 64]) -> usize
     requires { ⌜ (a < 64) × (b < 64) × (at (now toll) (min a b) ≤ at (now toll) (max a b)) ⌝ }
     ensures { λ r. ⌜ r ≡ at (now (toll .entry)) (max a b) - at (now (toll .entry)) (min a b) ⌝ }
 {
@@ -42,13 +42,13 @@ fn cost_of(a: usize, b: usize, toll: &[usize; 64]) -> usize
 }
 
 // What a request has above the prices it crosses, or 0.
-fn gain(profit: usize, cost: usize) -> usize
-    ensures { λ r. ⌜ r ≡ profit - cost ⌝ }
+fn gain(profit: usize, fare: usize) -> usize
+    ensures { λ r. ⌜ r ≡ profit - fare ⌝ }
 {
-    if profit < cost {
+    if profit < fare {
         return 0;
     }
-    profit - cost
+    profit - fare
 }
 
 // What all requests, kept or not, have above the prices they cross.
@@ -60,13 +60,13 @@ fn surplus(
     toll: &[usize; 64],
 ) -> usize
     requires { ⌜ Tallies count (now a) (now b) (now profit) (now toll) ⌝ }
-    ensures { λ r. ⌜ r ≡ Σ count (λ i. at (now (profit .entry)) i - costAt (now (a .entry)) (now (b .entry)) (now (toll .entry)) i) ⌝ }
+    ensures { λ r. ⌜ r ≡ Σ count (λ i. at (now (profit .entry)) i - fareAt (now (a .entry)) (now (b .entry)) (now (toll .entry)) i) ⌝ }
 {
     let mut sum = 0;
     let mut i = 0;
     while i < count {
-        let cost = cost_of(a[i], b[i], toll);
-        sum += gain(profit[i], cost);
+        let fare = fare_of(a[i], b[i], toll);
+        sum += gain(profit[i], fare);
         i += 1;
     }
     sum

@@ -9,8 +9,8 @@ use native.Mathlib.Nat.{eq-or-lt-of-le, le-of-suc-le-suc, eq-zero-or-pos}
 use native.Mathlib.Omega.{arith}
 use Rattle.sums.specs.Each.{of-yes}
 use Rattle.sums.specs.Sums.{Σ, bit, Σ-ext}
-use Rattle.row.specs.Row.{Row, covers, load, cost, WithinLimits, Tight}
-use Rattle.row.specs.Along.{cost-along}
+use Rattle.row.specs.Row.{Row, covers, load, fare, WithinLimits, Tight}
+use Rattle.row.specs.Along.{fare-along}
 use Rattle.flow.specs.Balanced.{Proper, loadTo, Deep, Balanced, priceAt}
 
 -- ---- prices along an interval
@@ -22,11 +22,11 @@ depth N zero rises = omega arith
 depth N (suc n) rises = omega (arith, depth N n (λ j l. rises j (omega arith)), rises n (omega arith))
 
 -- what candidate i pays is what its last node lies deeper than its first
-pub cost-depth : (row : Row) {N : ℕ → ℕ} → ((j : ℕ) → j < row .cells → N j ≤ N (suc j)) → (i : ℕ) → row .lo i ≤ row .hi i → row .hi i ≤ row .cells → cost row (priceAt N) i + N (row .lo i) ≡ N (row .hi i)
-cost-depth row {N} rises i ordered inside =
+pub fare-depth : (row : Row) {N : ℕ → ℕ} → ((j : ℕ) → j < row .cells → N j ≤ N (suc j)) → (i : ℕ) → row .lo i ≤ row .hi i → row .hi i ≤ row .cells → fare row (priceAt N) i + N (row .lo i) ≡ N (row .hi i)
+fare-depth row {N} rises i ordered inside =
     omega (
       arith,
-      cost-along row (priceAt N) i ordered inside,
+      fare-along row (priceAt N) i ordered inside,
       depth N (row .lo i) (λ j l. rises j (omega arith)),
       depth N (row .hi i) (λ j l. rises j (omega arith)),
     )
@@ -57,8 +57,8 @@ balanced-tight {row} {x} {s} {N} p b = record {
   dropped = λ i l left. omega (arith, spent i l, b .deep .dropped i l left);
 }
   where
-    spent : (i : ℕ) → i < row .count → cost row (priceAt N) i + N (row .lo i) ≡ N (row .hi i)
-    spent i l = cost-depth row (b .deep .rises) i (omega (arith, p .some-cell i l)) (p .in-row i l)
+    spent : (i : ℕ) → i < row .count → fare row (priceAt N) i + N (row .lo i) ≡ N (row .hi i)
+    spent i l = fare-depth row (b .deep .rises) i (omega (arith, p .some-cell i l)) (p .in-row i l)
 
 -- ---- one candidate more
 

@@ -12,7 +12,7 @@ use Rattle.book.specs.Book.{Book, spans, limit, count, profit}
 use Rattle.rules.specs.Plans.{Plan, kept, earnings, obeys, Best}
 use Rattle.rules.specs.Prices.{Prices, priceOf, ceiling, verdict}
 use Rattle.row.specs.Row
-use Rattle.row.specs.Row.{cost}
+use Rattle.row.specs.Row.{fare}
 use Rattle.row.specs.Duality.{weak}
 use Rattle.lines.specs.RowOf.{rowOf}
 use Rattle.lines.specs.Line.{Line}
@@ -22,12 +22,12 @@ use Rattle.lines.specs.Laid.{obeys-laid, earnings-worth, within-row}
 
 module _ {book : Book} (on : Line book) where
   pub ceiling-row : (prices : Prices) → ceiling book prices ≡ Row.ceiling (rowOf book) prices
-  unfolding ceiling Row.ceiling priceOf cost rowOf
+  unfolding ceiling Row.ceiling priceOf fare rowOf
   ceiling-row prices =
       ap (λ (n : ℕ). Σ (spans book) (λ s. limit book s * prices s) + n)
       (Σ-ext (count book) _ _ (λ i l. ap (λ (c : ℕ). profit book i - c) (priced i l)))
     where
-      priced : (i : ℕ) → i < count book → priceOf book prices i ≡ cost (rowOf book) prices i
+      priced : (i : ℕ) → i < count book → priceOf book prices i ≡ fare (rowOf book) prices i
       priced i l = Σ-ext (spans book) _ _ (λ s ls. ap (λ (t : Bool). when t (prices s)) (crossed-covers on i s l))
 
   pub no-plan-above : (plan : Plan) (prices : Prices) → obeys book plan ≡ true → earnings book plan ≤ ceiling book prices

@@ -13,7 +13,7 @@ use mir.Val.{SFits}
 use Rattle.signed.specs.Parts.{dn}
 use Rattle.signed.specs.Bits.{rd, back}
 use Rattle.flow.specs.Balanced.{Balanced}
-use Rattle.flow.specs.Certificate.{cost-depth, dropped-at-once}
+use Rattle.flow.specs.Certificate.{fare-depth, dropped-at-once}
 use Rattle.flow.specs.Insert.{insert-free, insert-dropped, insert-walks}
 use Rattle.flow.specs.Raise.{raised, raised-upto}
 use Rattle.sums.specs.Between.{between}
@@ -74,7 +74,7 @@ module _ {cells t : ℕ} {lo hi : List ℕ} {cost : List ℤ} {kept : List Bool}
     gain-upto =
         omega (
           arith,
-          cost-depth (rowIn (w .limit) (w .count) cells lo hi cost) (w .standing .balanced .deep .rises) t (omega (arith, ordered)) inside,
+          fare-depth (rowIn (w .limit) (w .count) cells lo hi cost) (w .standing .balanced .deep .rises) t (omega (arith, ordered)) inside,
           w .costs .upto t (omega arith),
         )
 

@@ -36,7 +36,7 @@ outcomeOf (Accepted net) limits count requests = done (bookFrom net limits count
 outcomeOf (Refused refusal) limits count requests = refused (refusal .number) (refusal .place)
 
 -- nothing stands beside the answer: no limit but 0, no request
-pub record Nothing (taken : Taken) : Type 0 where
+pub record NothingBeside (taken : Taken) : Type 0 where
   pub no-limits : taken .limits ≡ replicate 64 0
   pub no-count : taken .count ≡ 0
   pub no-requests : taken .requests ≡ replicate 256 noRequest
@@ -44,11 +44,11 @@ pub record Nothing (taken : Taken) : Type 0 where
 -- the reader's promise: its answer is the reading of document 01, and of a refused book nothing is handed on
 pub record Reads (file : List ℕ) (taken : Taken) : Type 0 where
   pub says : outcomeOf (taken .answer) (taken .limits) (taken .count) (taken .requests) ≡ reading file
-  pub refusing : (refusal : Refusal) → taken .answer ≡ Refused refusal → Nothing taken
+  pub refusing : (refusal : Refusal) → taken .answer ≡ Refused refusal → NothingBeside taken
   pub counted : taken .count ≤ 256
   pub sized : length (taken .requests) ≡ 256
 
 -- nothing was read, and this is why
 pub record Unread (answer : Answer) (taken : Taken) : Type 0 where
   pub because : taken .answer ≡ answer
-  pub nothing : Nothing taken
+  pub nothing : NothingBeside taken

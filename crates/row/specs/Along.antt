@@ -1,4 +1,4 @@
--- Prices along an interval of cells: the cells below its end are those below its start and its own, so its cost is what the prices below its end
+-- Prices along an interval of cells: the cells below its end are those below its start and its own, so its fare is what the prices below its end
 -- come to above those below its start. Assumes nothing.
 use mathlib.Core.Path.{_≡_}
 use mathlib.Core.Bool.{_&&_}
@@ -10,7 +10,7 @@ use lib.Dec.{leb, ltb}
 use borrow.Author.Tests.{lt-leb, le-leb, lt-ltb, le-ltb}
 use Rattle.sums.specs.Each.{less-or-not}
 use Rattle.sums.specs.Sums.{Σ, when, Σ-ext, Σ-add, when-yes}
-use Rattle.row.specs.Row.{Row, covers, cost}
+use Rattle.row.specs.Row.{Row, covers, fare}
 
 -- a sum below k, as a part of one below n
 below : (n k : ℕ) (f : ℕ → ℕ) → k ≤ n → Σ n (λ j. when (ltb j k) (f j)) ≡ Σ k f
@@ -26,9 +26,9 @@ below (suc n) k f l =
 apart : (lo hi j p : ℕ) → lo ≤ hi → when (leb lo j && ltb j hi) p + when (ltb j lo) p ≡ when (ltb j hi) p
 apart lo hi j p o = ⊎-elim (λ l. rw (lt-leb lo j l, lt-ltb j lo l, lt-ltb j hi (le-trans l o)) (omega arith)) (λ l. rw (le-leb lo j l, le-ltb j lo l) (omega arith)) (less-or-not j lo)
 
-pub cost-along : (row : Row) (y : ℕ → ℕ) (i : ℕ) → row .lo i ≤ row .hi i → row .hi i ≤ row .cells → cost row y i + Σ (row .lo i) y ≡ Σ (row .hi i) y
-unfolding cost covers
-cost-along row y i ordered inside =
+pub fare-along : (row : Row) (y : ℕ → ℕ) (i : ℕ) → row .lo i ≤ row .hi i → row .hi i ≤ row .cells → fare row y i + Σ (row .lo i) y ≡ Σ (row .hi i) y
+unfolding fare covers
+fare-along row y i ordered inside =
     omega (
       arith,
       Σ-add (row .cells) (λ j. when (covers row i j) (y j)) (λ j. when (ltb j (row .lo i)) (y j)),

@@ -1,10 +1,10 @@
 -- Prices may be cut down to a cap that no profit exceeds, and the certificate still holds. A cell with a price had one before, and a
--- candidate's cost does not rise and keeps what it had up to the cap, which is as far as its profit reaches. Assumes nothing.
+-- candidate's fare does not rise and keeps what it had up to the cap, which is as far as its profit reaches. Assumes nothing.
 use mathlib.Core.Bool.{Bool, true, false}
 use Prim.Native.Nat.{ℕ, zero, suc, _≤_, _<_, min}
 use native.Mathlib.Omega.{arith}
 use Rattle.sums.specs.Sums.{Σ, when, Σ-le}
-use Rattle.row.specs.Row.{Row, covers, cost, Tight}
+use Rattle.row.specs.Row.{Row, covers, fare, Tight}
 
 -- each price, but no more than the cap
 unfoldable pub clamp : ℕ → (ℕ → ℕ) → ℕ → ℕ
@@ -16,7 +16,7 @@ unfolding Σ
 sum-keeps zero f g cap h = omega arith
 sum-keeps (suc n) f g cap h = omega (arith, sum-keeps n f g cap (λ j l. h j (omega arith)), h n (omega arith))
 
--- one cell's part of a cost, t where the candidate is over it
+-- one cell's part of a fare, t where the candidate is over it
 part-keeps : (t : Bool) (cap p : ℕ) → min cap (when t p) ≤ when t (min cap p)
 part-keeps true cap p = omega arith
 part-keeps false cap p = omega arith
@@ -26,18 +26,18 @@ part-falls true cap p = omega arith
 part-falls false cap p = omega arith
 
 module _ (row : Row) (y : ℕ → ℕ) (cap i : ℕ) where
-  cost-keeps : min cap (cost row y i) ≤ cost row (clamp cap y) i
-  unfolding cost clamp
-  cost-keeps = sum-keeps (row .cells) _ _ cap (λ j l. part-keeps (covers row i j) cap (y j))
+  fare-keeps : min cap (fare row y i) ≤ fare row (clamp cap y) i
+  unfolding fare clamp
+  fare-keeps = sum-keeps (row .cells) _ _ cap (λ j l. part-keeps (covers row i j) cap (y j))
 
-  cost-falls : cost row (clamp cap y) i ≤ cost row y i
-  unfolding cost clamp
-  cost-falls = Σ-le (row .cells) _ _ (λ j l. part-falls (covers row i j) cap (y j))
+  fare-falls : fare row (clamp cap y) i ≤ fare row y i
+  unfolding fare clamp
+  fare-falls = Σ-le (row .cells) _ _ (λ j l. part-falls (covers row i j) cap (y j))
 
 pub clamped : (row : Row) (x : ℕ → Bool) (y : ℕ → ℕ) (cap : ℕ) → ((i : ℕ) → i < row .count → row .profit i ≤ cap) → Tight row x y → Tight row x (clamp cap y)
 unfolding clamp
 clamped row x y cap small t = record {
   full = λ j l priced. t .full j l (omega arith);
-  paid = λ i l kept. omega (arith, cost-falls row y cap i, t .paid i l kept);
-  dropped = λ i l left. omega (arith, cost-keeps row y cap i, small i l, t .dropped i l left);
+  paid = λ i l kept. omega (arith, fare-falls row y cap i, t .paid i l kept);
+  dropped = λ i l left. omega (arith, fare-keeps row y cap i, small i l, t .dropped i l left);
 }

@@ -37,17 +37,17 @@ pub record WithinLimits (row : Row) (x : ℕ → Bool) : Type 0 where
   pub holds : (j : ℕ) → j < row .cells → load row x j ≤ row .limit j
 
 -- the prices y of the cells that candidate i is over, and the ceiling of y
-unfoldable pub cost : Row → (ℕ → ℕ) → ℕ → ℕ
-cost row y i = Σ (row .cells) (λ j. when (covers row i j) (y j))
+unfoldable pub fare : Row → (ℕ → ℕ) → ℕ → ℕ
+fare row y i = Σ (row .cells) (λ j. when (covers row i j) (y j))
 
 unfoldable pub ceiling : Row → (ℕ → ℕ) → ℕ
-ceiling row y = Σ (row .cells) (λ j. row .limit j * y j) + Σ (row .count) (λ i. row .profit i - cost row y i)
+ceiling row y = Σ (row .cells) (λ j. row .limit j * y j) + Σ (row .count) (λ i. row .profit i - fare row y i)
 
 -- the certificate: a cell with a price is full, what is kept is worth its prices, what is dropped is not worth more
 pub record Tight (row : Row) (x : ℕ → Bool) (y : ℕ → ℕ) : Type 0 where
   pub full : (j : ℕ) → j < row .cells → 0 < y j → load row x j ≡ row .limit j
-  pub paid : (i : ℕ) → i < row .count → x i ≡ true → cost row y i ≤ row .profit i
-  pub dropped : (i : ℕ) → i < row .count → x i ≡ false → row .profit i ≤ cost row y i
+  pub paid : (i : ℕ) → i < row .count → x i ≡ true → fare row y i ≤ row .profit i
+  pub dropped : (i : ℕ) → i < row .count → x i ≡ false → row .profit i ≤ fare row y i
 
 -- ---- channels
 

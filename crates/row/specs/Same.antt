@@ -10,7 +10,7 @@ use Rattle.sums.specs.Each.{some-ext}
 use Rattle.sums.specs.Sums.{when, bit, Σ-ext}
 use Rattle.sums.specs.Tests.{when-so}
 use Rattle.sums.specs.Lowest.{lowest-ext}
-use Rattle.row.specs.Row.{Row, covers, load, cost, WithinLimits, Tight, before, meet, heldBefore}
+use Rattle.row.specs.Row.{Row, covers, load, fare, WithinLimits, Tight, before, meet, heldBefore}
 use Rattle.row.specs.Channels.{Ruled}
 
 -- the same intervals on the same number of cells
@@ -82,9 +82,9 @@ module _ {row row′ : Row} (s : Same row row′) {x x′ : ℕ → Bool} (sets 
   }
 
   module _ {y y′ : ℕ → ℕ} (prices : (j : ℕ) → j < row .cells → y j ≡ y′ j) where
-    cost-same : (i : ℕ) → i < row .count → cost row y i ≡ cost row′ y′ i
-    unfolding cost
-    cost-same i l = Σ-ext (row .cells) _ _ (λ j h. ap₂ when (covers-same (s .intervals) i j l) (prices j h)) ∙ rw (s .intervals .cells)
+    fare-same : (i : ℕ) → i < row .count → fare row y i ≡ fare row′ y′ i
+    unfolding fare
+    fare-same i l = Σ-ext (row .cells) _ _ (λ j h. ap₂ when (covers-same (s .intervals) i j l) (prices j h)) ∙ rw (s .intervals .cells)
 
     pub tight-same : Tight row x y → Tight row′ x′ y′
     tight-same t = record {
@@ -93,8 +93,8 @@ module _ {row row′ : Row} (s : Same row row′) {x x′ : ℕ → Bool} (sets 
           omega (arith, t .full j l (omega (arith, prices j l)), load-same (s .intervals) sets j, s .limit j l);
       paid = λ i h kept.
           let l : i < row .count = omega arith in
-          omega (arith, t .paid i l (sets i l ∙ kept), cost-same i l, s .profit i l);
+          omega (arith, t .paid i l (sets i l ∙ kept), fare-same i l, s .profit i l);
       dropped = λ i h left.
           let l : i < row .count = omega arith in
-          omega (arith, t .dropped i l (sets i l ∙ left), cost-same i l, s .profit i l);
+          omega (arith, t .dropped i l (sets i l ∙ left), fare-same i l, s .profit i l);
     }

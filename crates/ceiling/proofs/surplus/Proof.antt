@@ -16,8 +16,8 @@ abbrev μ-loop : tie.MeasureT-loop
 loop-holds : tie.Need-loop-holds Inv-loop μ-loop
 loop-holds c = (omega arith, tallying-none)
 
-cost-of-requires : tie.Need-cost-of-requires Inv-loop μ-loop
-cost-of-requires c κs =
+fare-of-requires : tie.Need-fare-of-requires Inv-loop μ-loop
+fare-of-requires c κs =
     let pre = c .before .before .before .before .pre in
     (pre .a-upto _ (omega arith), pre .b-upto _ (omega arith), pre .rising _ (omega arith))
 
@@ -31,7 +31,7 @@ loop-again : tie.Need-loop-again Inv-loop μ-loop
 loop-again c =
     let pre = c .before .before .before .before .before .before .before .pre in
     let l = c .before .before .before .before .before .before .loop in
-    (omega arith, tallying-more _ _ (l .inv .1) (pre .profit-upto (l .i) (omega arith)) (c .before .before .cost-of .ensures) (c .gain .ensures))
+    (omega arith, tallying-more _ _ (l .inv .1) (pre .profit-upto (l .i) (omega arith)) (c .before .before .fare-of .ensures) (c .gain .ensures))
 
 returns : tie.Need-returns Inv-loop μ-loop
 returns c =
@@ -50,7 +50,7 @@ surplus-spec =
     (λ c. omega arith)
     (λ c. omega arith)
     (λ c. omega arith)
-    cost-of-requires
+    fare-of-requires
     (λ c. omega arith)
     (λ c. omega arith)
     (λ c κs. search needs)

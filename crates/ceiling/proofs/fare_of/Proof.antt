@@ -1,10 +1,10 @@
--- `ceiling::cost_of` meets its contract: the test says which of the two ends is the greater. Assumes nothing.
+-- `ceiling::fare_of` meets its contract: the test says which of the two ends is the greater. Assumes nothing.
 use mathlib.Core.Path.{_≡_}
 use Prim.Native.Nat.{min, max}
 use native.Mathlib.Omega.{arith}
 use borrow.Author.Needs.{needs}
-use Rattle.ceiling.proofs.cost_of.Statement.{statement}
-use Rattle.ceiling.proofs.cost_of.Tie as tie
+use Rattle.ceiling.proofs.fare_of.Statement.{statement}
+use Rattle.ceiling.proofs.fare_of.Tie as tie
 
 sub-result : tie.Need-sub-result
 sub-result c =
@@ -34,8 +34,8 @@ returns-2 c =
     let l : min (p .args .a) (p .args .b) ≡ p .args .b = omega arith in
     rw (h, l)
 
-pub cost-of-spec : {M : Type 1} → statement M
-cost-of-spec =
+pub fare-of-spec : {M : Type 1} → statement M
+fare-of-spec =
     tie.close
     (tie.spec
     (λ c. search needs)
