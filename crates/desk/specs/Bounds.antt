@@ -4,14 +4,14 @@ use mathlib.Core.Bool.{Bool, true, false, cond}
 use mathlib.Core.List.{List}
 use mathlib.Core.Logic.{inl, inr, ⊎-elim}
 use mathlib.Core.Path.{_≡_, refl}
-use Prim.Native.Nat.{ℕ, _-_, _≤_}
+use Prim.Native.Nat.{ℕ, _≤_}
 use native.Mathlib.Omega.{arith}
 use borrow.Author.Tests.{ltb-true}
-use lib.Dec.{eqb, ltb}
+use lib.Dec.{ltb}
 use lib.ListN.{length}
 use Rattle.sums.specs.Each.{decided, less-or-not}
 use Rattle.sums.specs.Sums.{when, bit, when-le, bit-le, Σ-most}
-use Rattle.book.specs.Book.{Book, isRing, spans, spansOf, count, profit}
+use Rattle.book.specs.Book.{Book, isRing, spans, count, profit}
 use Rattle.book.specs.Bytes.{entryIn, priceIn}
 use Rattle.book.specs.Sound.{Sound, sound}
 use Rattle.book.specs.Refusals.{records, spansIn, nodesIn, shapeIn}
@@ -20,7 +20,7 @@ use Rattle.book.specs.Means.{less, same, not-so, and, or}
 use Rattle.book.specs.InWords.{row-1, row-3}
 use Rattle.book.specs.Laws.{Given, refused-given}
 use Rattle.rules.specs.Plans.{Plan, kept, earnings, numberKept}
-use Rattle.rules.specs.Cuts.{cut, cutShown}
+use Rattle.rules.specs.Cuts.{cutShown}
 use Rattle.rules.specs.Prices.{verdict}
 use Rattle.rules.specs.Operations.{placesShort, tooShort, tooDear, checking, checker, plannableIn, Planned}
 use Rattle.rings.specs.Ring.{Ring}

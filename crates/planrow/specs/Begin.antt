@@ -9,7 +9,7 @@ use lib.ListN.{getD, length, set, length-set}
 use lib.Seq.{getD-set-same, getD-set-other}
 use Rattle.signed.specs.Parts.{up, dn}
 use Rattle.sums.specs.Each.{same-or-not}
-use Rattle.planrow.specs.State.{at, depth, PastCell, Stepped}
+use Rattle.planrow.specs.State.{at, PastCell, Stepped}
 
 -- as far as node j, in an array of 128
 pub record SteppedTo (j : ℕ) (room : List ℕ) (dist : List ℤ) : Type 0 where

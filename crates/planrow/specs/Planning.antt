@@ -2,12 +2,11 @@
 -- on the empty row, which steps down at cells without room only, and a turn inserts one candidate more. Assumes nothing.
 use mathlib.Core.Bool.{Bool, true, false}
 use mathlib.Core.List.{List}
-use mathlib.Core.Path.{_≡_, refl, ap}
+use mathlib.Core.Path.{_≡_, refl}
 use Prim.Native.Nat.{ℕ, suc, _≤_, _<_}
 use native.Mathlib.Omega.{arith}
 use lib.ListN.{replicate, getD-replicate}
 use lib.IntN.{ℤ}
-use Rattle.signed.specs.Parts.{up, dn}
 use Rattle.flow.specs.Certificate.{empty-balanced}
 use Rattle.planrow.specs.Fewer.{proper-fewer, below-fewer}
 use Rattle.planrow.specs.State.{at, Flagged, Chained, Links, links, Chains, Stepped, Standing, CanPlan, CanInsert}

@@ -1,7 +1,7 @@
 -- The chain of the candidates of a side that have an end at u is followed from its head to its end: `Chains` has each turn. The measure is the number
 -- of the link. Assumes nothing.
 use mathlib.Core.Path.{_≡_}
-use Prim.Native.Nat.{ℕ, _-_, _≤_, _<_}
+use Prim.Native.Nat.{ℕ, _-_, _<_}
 use native.Mathlib.Omega.{arith}
 use Rattle.planrow.specs.State.{at, Flagged, endsOf, marks}
 use Rattle.planrow.specs.Relaxed.{read-cost}
