@@ -16,7 +16,7 @@ use Rattle.desk.specs.Promise.{Written}
 -- ---- one number
 
 -- of a number's w bytes, which begin at an offset, all but the first `left` are written, and no other byte changed
-pub record Put (offset w left value : ℕ) (before after : List ℕ) : Type 0 where
+pub record NumberPut (offset w left value : ℕ) (before after : List ℕ) : Type 0 where
   pub length-same : length after ≡ length before
   pub bytes : (k j : ℕ) → left ≤ k → k + 1 + j ≡ w → byte after (offset + k) ≡ value / 256 ^ j % 256
   pub earlier : (t : ℕ) → t < offset + left → byte after t ≡ byte before t
@@ -26,7 +26,7 @@ pub record Put (offset w left value : ℕ) (before after : List ℕ) : Type 0 wh
 pub record Putting (offset w left value rest : ℕ) (before after : List ℕ) : Type 0 where
   pub upto : left ≤ w
   pub rest-is : (j : ℕ) → left + j ≡ w → rest ≡ value / 256 ^ j
-  pub put : Put offset w left value before after
+  pub put : NumberPut offset w left value before after
 
 pub putting-none : (offset w value : ℕ) (before : List ℕ) → Putting offset w w value value before before
 putting-none offset w value before =
@@ -81,7 +81,7 @@ written-none w numbers before =
     record { length-same = refl; whole = λ i h. absurd (omega arith); bytes = λ i k j h e. absurd (omega arith); later = λ t h. refl }
 
 pub written-more :
-    {w n : ℕ} {numbers : ℕ → ℕ} {before out after : List ℕ} → numbers n < 256 ^ w → Written w n numbers before out → Put (w * n) w 0 (numbers n) out after
+    {w n : ℕ} {numbers : ℕ → ℕ} {before out after : List ℕ} → numbers n < 256 ^ w → Written w n numbers before out → NumberPut (w * n) w 0 (numbers n) out after
     → Written w (n + 1) numbers before after
 written-more {w} {n} {numbers} small was put =
     record {

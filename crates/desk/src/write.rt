@@ -3,12 +3,12 @@ ghost use Prim.Native.Nat.{_+_, _≤_};
 ghost use lib.ListN.{length};
 ghost use Rattle.book.specs.Columns.{at};
 ghost use Rattle.desk.specs.Promise.{Written};
-ghost use Rattle.desk.specs.Writing.{Put, Fit};
+ghost use Rattle.desk.specs.Writing.{NumberPut, Fit};
 
 // The bytes of a number, from its last one back.
 fn put(out: &mut [u8], offset: usize, width: usize, value: usize)
     requires { ⌜ offset + width ≤ length (now out) ⌝ }
-    ensures { λ _. ⌜ Put offset width 0 value (now (out .entry)) (now (out .exit)) ⌝ }
+    ensures { λ _. ⌜ NumberPut offset width 0 value (now (out .entry)) (now (out .exit)) ⌝ }
 {
     let mut rest = value;
     let mut left = width;

@@ -1,5 +1,4 @@
 // One sweep along the line decides the spans, with a step for each request and each span: how many cross a span, and whether two of them have one channel.
-ghost use mathlib.Core.Path.{_≡_};
 ghost use Prim.Native.Nat.{_≤_, _<_};
 ghost use Rattle.channels.specs.Lists.{ListedByNode};
 ghost use Rattle.lawful.specs.Spans.{Decides, Between, CanSweep, WithinSpans, ApartSpans};

@@ -9,7 +9,6 @@ use Rattle.book.specs.Sound.{Sound}
 use Rattle.book.specs.Reading.{Outcome, done, refused}
 use Rattle.rules.specs.Operations as O
 use Rattle.rules.specs.Operations.{plannableIn, Priced}
-use Rattle.records.specs.declared.Refusal.{Refusal}
 use Rattle.line.specs.declared.Solved as Solving
 use Rattle.line.specs.declared.Solved.{Solved}
 use Rattle.planner.specs.declared.Answer.{Answer}

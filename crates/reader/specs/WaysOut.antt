@@ -16,7 +16,6 @@ use Rattle.book.specs.Reading.{done, refused, due, bookOf, faultyRecord, readin
 use Rattle.book.specs.Laws.{unbroken, clean-read, span-looked-at, present-looked-at}
 use Rattle.book.specs.Means.{not-so}
 use Rattle.book.specs.InWords.{Row3, Row5, row-3, row-5}
-use Rattle.records.specs.declared.Network.{Network}
 use Rattle.records.specs.declared.Refusal.{Refusal}
 use Rattle.records.specs.declared.Reading.{Reading}
 use Rattle.records.specs.declared.Reading.the-variants.{Got, Refused}
