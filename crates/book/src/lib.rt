@@ -1,1 +1,1 @@
-// No code yet: the definitions of an order book and of its reading stand in specs/.
+// No code: the definitions of an order book and of its reading stand in specs/.

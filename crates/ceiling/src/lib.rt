@@ -14,7 +14,7 @@ fn rent(spans: usize, limits: &[usize; 64], prices: &[usize; 64], toll: &mut [us
     requires { ⌜ Payable spans (now limits) (now prices) ⌝ }
     ensures { λ r. ⌜ Tolled spans (now (limits .entry)) (at (now (prices .entry))) (now (toll .exit)) r ⌝ }
 {
-    // tells how many places there are
+    // the whole array, so that its length is known
     let all = &toll[..];
     toll[0] = 0;
     let mut sum = 0;

@@ -19,7 +19,7 @@ fn lay(
     requires { ⌜ Profits count (now profit) ⌝ }
     ensures { λ r. ⌜ Candidates count (now (a .entry)) (now (b .entry)) (now (profit .entry)) (now (lo .exit)) (now (hi .exit)) (now (cost .exit)) ⌝ }
 {
-    // a slice of an array behind a reference tells how many places it has
+    // the whole array, so that its length is known
     let los = &lo[..];
     let his = &hi[..];
     let costs = &cost[..];
@@ -51,7 +51,7 @@ fn arrange(
     requires { ⌜ Numbers count (now order) ⌝ }
     ensures { λ r. ⌜ Arranged count (now (order .entry)) (now (lo .entry)) (now (hi .entry)) (now (cost .entry)) (now (los .exit)) (now (his .exit)) (now (costs .exit)) ⌝ }
 {
-    // tell how many places there are
+    // the whole array, so that its length is known
     let lo_places = &los[..];
     let hi_places = &his[..];
     let cost_places = &costs[..];
@@ -70,7 +70,7 @@ fn put_back(count: usize, place: &[usize; 256], keeps: &[bool; 256], kept: &mut 
     requires { ⌜ Numbers count (now place) ⌝ }
     ensures { λ r. ⌜ PutBack count (now (place .entry)) (now (keeps .entry)) (now (kept .exit)) ⌝ }
 {
-    // tells how many places there are
+    // the whole array, so that its length is known
     let all = &kept[..];
     let mut r = 0;
     while r < count {
@@ -79,7 +79,7 @@ fn put_back(count: usize, place: &[usize; 256], keeps: &[bool; 256], kept: &mut 
     }
 }
 
-// Lays the requests on the row and finds its best set. They are inserted in order of worth, which changes nothing but the time it takes.
+// Lays the requests on the row and finds its best set. They are inserted in an order that is likely to be quick: which of several best sets is found may depend on it, and the time.
 pub fn solve(
     cells: usize,
     count: usize,

@@ -22,7 +22,7 @@ pub record CanHandOut (cells count k : ℕ) (lo hi : List ℕ) (kept : List Bool
   pub proper : Proper (rowOn cells count lo hi) count
   pub fits : (j : ℕ) → j < cells → load (rowOn cells count lo hi) (flag kept) j ≤ k
 
--- every kept one has the channel of the rule, one of 1 to k, and the others have 0; refusal 15 is never the answer, by `found` of the crate row
+-- every kept one has the channel of the rule, one of 1 to k, and the others have 0; refusal 15 is never the answer
 pub record HandedOut (cells count k : ℕ) (lo hi : List ℕ) (kept : List Bool) (given : Given) (channel : List ℕ) : Type 0 where
   pub all : given ≡ All
   pub ruled : Ruled (rowOn cells count lo hi) k (flag kept) (at channel)

@@ -1,5 +1,5 @@
--- Two outcomes allowed by the same statement are equal (01, "How far the statements reach"), as far as refusals go: of reading, of the checker and of the
--- planner, as a number and a place, and at the desk's boundary as the answer and the later content of both lists. Assumes nothing.
+-- Two outcomes allowed by the same statement are equal (01, "How far the statements reach"), as far as refusals go: of reading and of
+-- the planner with all that stands beside the refusal, of the checker, and at the desk's boundary with the later content of both lists. Assumes nothing.
 use mathlib.Core.List.{List}
 use mathlib.Core.Path.{_≡_, refl, sym, ap₂, _∙_}
 use Prim.Native.Nat.{ℕ}

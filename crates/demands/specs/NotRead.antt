@@ -1,5 +1,5 @@
--- "Entries after m and prices after n − 1 are not read" (01, "Prices and the checker"): lists which agree before that, and are as long as asked for or not
--- alike, get the same answer of the checker, a refusal included. Assumes nothing.
+-- "Entries after m and prices after n − 1 are not read" (01, "Prices and the checker"): lists which agree before that, and are both long enough
+-- or both too short, get the same answer of the checker, a refusal included. Assumes nothing.
 use mathlib.Core.Bool.{_&&_}
 use mathlib.Core.List.{List}
 use mathlib.Core.Path.{_≡_, refl, ap, ap₂}

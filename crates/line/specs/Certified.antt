@@ -13,7 +13,7 @@ use Rattle.rules.specs.Prices.{Prices, verdict}
 use Rattle.rules.specs.Best.{best}
 use Rattle.row.specs.Row.{Row, load, worth, WithinLimits, Tight}
 use Rattle.row.specs.Duality.{tight}
-use Rattle.row.specs.Answers.{same-worth}
+use Rattle.row.specs.Answers.{none-worth-more}
 use Rattle.row.specs.Clamp.{clamp, clamped}
 use Rattle.row.specs.Same.{SameKept, Same, within-same, tight-same}
 use Rattle.flow.specs.Balanced.{Proper, Balanced, priceAt}
@@ -72,7 +72,7 @@ module _ {book : Book} (on : Line book) where
         arith,
         earns,
         earnings-worth book plan,
-        same-worth (rowOf book) x (kept plan) y (c .certificate) within,
+        none-worth-more (rowOf book) x (kept plan) y (c .certificate) within,
         set-bounded book (count book) (limit book) x (λ s l. omega (arith, crossed-load s, c .within .holds s l)),
       )
     where

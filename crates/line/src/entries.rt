@@ -48,7 +48,7 @@ pub fn enter(
     requires { ⌜ Channels count (now channel) ⌝ }
     ensures { λ r. ⌜ Entered count (now (a .entry)) (now (b .entry)) (now (kept .entry)) (now (channel .entry)) (now (entries .exit)) ⌝ }
 {
-    // a slice of an array behind a reference tells how many places it has
+    // the whole array, so that its length is known
     let all = &entries[..];
     let mut i = 0;
     while i < count {

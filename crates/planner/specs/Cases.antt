@@ -37,7 +37,7 @@ plan-is (Refused refusal) says = let z : _≡_ {A = ℕ} 0 1 = cc in absurd (ome
 pub is-plan : {book : Book} {r : BookPlan} (plan : PlanOf book r) → r .answer ≡ Planned (plan .earned) (plan .number) (plan .cut)
 is-plan {r} plan = plan-is (r .answer) (plan .says)
 
--- a refusal is that refusal, with its zeros, and nothing else
+-- an answer that means a refusal is that refusal
 refusal-is : (answer : Answer) {n p : ℕ} → plannedOf answer ≡ refused n p → answer ≡ Refused (record { number = n; place = p })
 unfolding plannedOf
 refusal-is (Planned earned number cut) says = let z : _≡_ {A = ℕ} 0 1 = cc in absurd (omega arith)
@@ -46,6 +46,7 @@ refusal-is (Refused refusal) {n} {p} says =
     let place : refusal .place ≡ p = cc in
     ap₂ (λ n p. Refused (record { number = n; place = p })) number place
 
+-- two refusals by the same number and place are the same, with the zeros beside them
 pub refused-once : {n p : ℕ} {r other : BookPlan} → Refusing n p r → Refusing n p other → r ≡ other
 refused-once {r} {other} x y =
     let answer : r .answer ≡ other .answer = refusal-is (r .answer) (x .says) ∙ sym (refusal-is (other .answer) (y .says)) in

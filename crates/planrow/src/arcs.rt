@@ -19,7 +19,7 @@ pub fn length_left(cost: i64, near: i64, far: i64) -> usize
 pub fn enlist(list: &mut [usize; 128], size: usize, v: usize) -> usize
     ensures { λ r. ⌜ (size < 128 → (now (list .exit) ≡ set (now (list .entry)) size v) × (r ≡ suc size)) ⌝ }
 {
-    // a slice of an array behind a reference tells how many places it has
+    // the whole array, so that its length is known
     let places = &list[..];
     if size < 128 {
         list[size] = v;
@@ -44,7 +44,7 @@ pub fn relax(
     requires { ⌜ v < 128 ⌝ }
     ensures { λ r. ⌜ Relaxation most (marks (now (label .entry)) (now (by .entry)) (now (from .entry)) (now (list .entry)) size) (marks (now (label .exit)) (now (by .exit)) (now (from .exit)) (now (list .exit)) r) v way u arc ⌝ }
 {
-    // a slice of an array behind a reference tells how many places it has
+    // the whole array, so that its length is known
     let labels = &label[..];
     let arcs = &by[..];
     let origins = &from[..];

@@ -22,7 +22,7 @@ pub fn put_in(head: &mut [usize; 128], next: &mut [usize; 256], v: usize, e: usi
     requires { ⌜ CanPutIn (now head) (now next) v e ⌝ }
     ensures { λ r. ⌜ ((w : CanPutIn (now (head .entry)) (now (next .entry)) v e) → Moved (w .0) (now (head .exit)) (now (next .exit))) ⌝ }
 {
-    // the whole arrays, so that their lengths are known
+    // the whole array, so that its length is known
     let heads = &head[..];
     let nexts = &next[..];
     let first = head[v];
@@ -41,7 +41,7 @@ pub fn take_out(head: &mut [usize; 128], next: &mut [usize; 256], v: usize, e: u
     requires { ⌜ CanTakeOut (now head) (now next) v e ⌝ }
     ensures { λ r. ⌜ ((w : CanTakeOut (now (head .entry)) (now (next .entry)) v e) → Moved (w .0) (now (head .exit)) (now (next .exit))) ⌝ }
 {
-    // the whole arrays, so that their lengths are known
+    // the whole array, so that its length is known
     let heads = &head[..];
     let nexts = &next[..];
     let first = head[v];

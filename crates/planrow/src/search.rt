@@ -30,7 +30,7 @@ pub fn start(cells: usize, b: usize, most: usize, label: &mut [usize; 128], rank
     requires { ⌜ (cells ≤ 127) × (b ≤ cells) ⌝ }
     ensures { λ r. ⌜ Fresh cells b most (now (label .exit)) (now (rank .exit)) ⌝ }
 {
-    // a slice of an array behind a reference tells how many places it has
+    // the whole array, so that its length is known
     let labels = &label[..];
     let ranks = &rank[..];
     let mut v = 0;

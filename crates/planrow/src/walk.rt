@@ -24,7 +24,7 @@ pub fn walk_back(
     ensures { λ r. ⌜ ((w : CanWalk (now (kept .entry)) (now (room .entry)) (links (now («head_lo» .entry)) (now («next_lo» .entry)) (now («head_hi» .entry)) (now («next_hi» .entry))) (now (rank .entry)) (now (by .entry)) (now (from .entry)) a b) → Balanced (w .row) (w .t) (flag (now (kept .exit))) (at (now (room .exit))) (w .N)) ⌝ }
     ensures { λ r. ⌜ ((w : CanWalk (now (kept .entry)) (now (room .entry)) (links (now («head_lo» .entry)) (now («next_lo» .entry)) (now («head_hi» .entry)) (now («next_hi» .entry))) (now (rank .entry)) (now (by .entry)) (now (from .entry)) a b) → Chains (w .row .cells) (w .t) (w .row .lo) (w .row .hi) (now (kept .exit)) (links (now («head_lo» .exit)) (now («next_lo» .exit)) (now («head_hi» .exit)) (now («next_hi» .exit)))) ⌝ }
 {
-    // the whole arrays, so that their lengths are known
+    // the whole array, so that its length is known
     let flags = &kept[..];
     let rooms = &room[..];
     let mut v = a;

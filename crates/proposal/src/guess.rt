@@ -314,8 +314,8 @@ fn surplus_all(
     let mut top = 0;
     let mut i = 0;
     while i < count {
-        let cost = fare(lo[i], hi[i], tolls);
-        let w = surplus(bids[i], cost, slack);
+        let paid = fare(lo[i], hi[i], tolls);
+        let w = surplus(bids[i], paid, slack);
         worths[i] = w;
         if top < w {
             top = w;
@@ -351,8 +351,8 @@ fn bid_above(
     let mut sum = 0;
     let mut i = 0;
     while i < count {
-        let cost = fare(lo[i], hi[i], tolls);
-        sum = more(sum, less(bids[i], cost));
+        let paid = fare(lo[i], hi[i], tolls);
+        sum = more(sum, less(bids[i], paid));
         i += 1;
     }
     sum

@@ -38,7 +38,7 @@ pub fn four(file: &[u8], at: usize) -> usize
     high * 65536 + low
 }
 
-// Whether the four bytes from an offset on are all 0: then, and only then, their number is.
+// Whether the four bytes from an offset on are all 0: then, and only then, their number is. (One test in place of four: every request is asked.)
 pub fn four_blank(file: &[u8], at: usize) -> bool
     requires { ⌜ at + 4 ≤ length (now file) ⌝ }
     ensures { λ r. ⌜ r ≡ B.blank (now (file .entry)) at 4 ⌝ }

@@ -21,7 +21,7 @@ fn places(nodes: usize, j: usize, place: &mut [usize; 128])
     requires { ⌜ (j < nodes) × (nodes ≤ 64) ⌝ }
     ensures { λ r. ⌜ Filled (spanAt nodes j) (nodes - 1) (now (place .exit)) ⌝ }
 {
-    // tells how many places there are
+    // the whole array, so that its length is known
     let all = &place[..];
     let last = nodes - 1;
     let mut t = 0;
@@ -36,7 +36,7 @@ fn bridge(nodes: usize, j: usize, known: &mut [usize; 64])
     requires { ⌜ (j < nodes) × (3 ≤ nodes) × (nodes ≤ 64) ⌝ }
     ensures { λ r. ⌜ (LowPrices (now (known .entry)) → LowPrices (now (known .exit))) ⌝ }
 {
-    // tells how many places there are
+    // the whole array, so that its length is known
     let all = &known[..];
     let after = known[turn::span_at(nodes, j, 0)];
     let before = known[turn::span_at(nodes, j, nodes - 2)];
@@ -60,7 +60,7 @@ pub fn best_earnings(
     ensures { λ r. ⌜ ((w : CanPlanLine nodes channels count (now (limits .entry)) (now (a .entry)) (now (b .entry)) (now (profit .entry))) → r ≡ best (w .book)) ⌝ }
     ensures { λ r. ⌜ LowPrices (now (known .exit)) ⌝ }
 {
-    // tells how many places there are
+    // the whole array, so that its length is known
     let all = &known[..];
     let mut place = [0usize; 128];
     places(nodes, j, &mut place);

@@ -60,9 +60,9 @@ module _ {book : Book} (on : Ring book) (j : ℕ) where
     unfolding over
     over-cut i l = ⊎-elim (λ k. ap (λ (t : Bool). kept plan i && t) (not-across-cut on j cut i (way plan i) l (fair .way-exists i (known i l) k)) ∙ rw k) (λ k. rw k) (decided (kept plan i))
 
-    -- the place of a span that somebody crosses
-    place : (i s : ℕ) → i < count book → s < spans book → over book plan i s ≡ true → (s ≡ j → ⊥)
-    place i s l h o q = of-yes (sym (over-cut i l) ∙ ap (λ (k : ℕ). over book plan i k) (sym q) ∙ o)
+    -- a span that somebody crosses is not the cut
+    not-the-cut : (i s : ℕ) → i < count book → s < spans book → over book plan i s ≡ true → (s ≡ j → ⊥)
+    not-the-cut i s l h o q = of-yes (sym (over-cut i l) ∙ ap (λ (k : ℕ). over book plan i k) (sym q) ∙ o)
 
     load-place : (t : ℕ) → t + 1 < book .nodes → load book plan (spanAt (book .nodes) j t) ≡ load (cutLine book j) plan t
     unfolding load
@@ -88,7 +88,7 @@ module _ {book : Book} (on : Ring book) (j : ℕ) where
 
         differ : (i i′ s : ℕ) → i < count book → i′ < count book → s < spans book → over book plan i s ≡ true → over book plan i′ s ≡ true → (i ≡ i′ → ⊥) → channel plan i ≡ channel plan i′ → ⊥
         differ i i′ s l l′ h o o′ =
-            let p = span-of-place (book .nodes) j inside s (omega (arith, ring-spans on)) (place i s l h o) in
+            let p = span-of-place (book .nodes) j inside s (omega (arith, ring-spans on)) (not-the-cut i s l h o) in
             fair .channels-differ i i′ (steps (book .nodes) (j + 1) s) (known i l) (known i′ l′) (omega (arith, cut-spans on j, p .0))
             (sym (over-place i _ l (p .0)) ∙ ap (λ (k : ℕ). over book plan i k) (p .1) ∙ o)
             (sym (over-place i′ _ l′ (p .0)) ∙ ap (λ (k : ℕ). over book plan i′ k) (p .1) ∙ o′)

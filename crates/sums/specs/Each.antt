@@ -86,7 +86,7 @@ unfolding each
 each-of zero f h = refl
 each-of (suc n) f h = both (each n f) (f n) (each-of n f (λ i l. h i (omega arith))) (h n (omega arith))
 
--- where it fails somewhere below n, the test over all of them fails
+-- where the test over all of them fails, it fails somewhere
 pub each-breaks : (n : ℕ) (f : ℕ → Bool) → each n f ≡ false → (i : ℕ) × (i < n) × (f i ≡ false)
 unfolding each
 each-breaks zero f e = absurd (of-yes (sym e))

@@ -77,6 +77,6 @@ short (suc k) n h =
     ⊎-elim (λ l. rw (decimal-one n l) (omega arith)) (λ l. omega (arith, length-more n l, short k (n / 10) (omega (arith, pow-suc 10 (suc k)))))
     (less-or-not n 10)
 
--- what 64 bits hold has 20 digits at most, and what 32 bits hold 10
+-- what 64 bits hold has 20 digits at most
 pub short-64 : (n : ℕ) → Fits w64 n → length (decimal n) ≤ 20
 short-64 n h = short 19 n (omega arith)

@@ -46,7 +46,7 @@ pub fn price_list(spans: usize, prices: &[u8], list: &mut [usize; 64])
     requires { ⌜ (spans ≤ 64) × (4 * spans ≤ length (now prices)) ⌝ }
     ensures { λ r. ⌜ Filled (priceIn (now (prices .entry))) spans (now (list .exit)) ⌝ }
 {
-    // tells how many places there are
+    // the whole array, so that its length is known
     let all = &list[..];
     let mut s = 0;
     while s < spans {

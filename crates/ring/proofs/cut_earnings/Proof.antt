@@ -1,4 +1,4 @@
--- `ring::cut_earnings` meets its contract: the turned columns hold the line which the cut leaves, and `line::best_earnings` speaks of that line. Assumes nothing.
+-- `ring::cut_earnings` meets its contract: the turned columns hold the line which the cut leaves, and `known::best_earnings` speaks of that line. Assumes nothing.
 use borrow.Author.Needs.{needs}
 use Rattle.ring.specs.Turned.{few-nodes, some-nodes, a-nodes, b-nodes, cut-plannable, cut-earned}
 use Rattle.ring.proofs.cut_earnings.Statement.{statement}

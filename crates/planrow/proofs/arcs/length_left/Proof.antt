@@ -1,10 +1,12 @@
--- The sum and the difference stay within 600,000,000, and the difference is not below 0: the far end lies at least as deep as the arc reaches.
+-- The sum and the difference stay within `lowest` and a cost, and the difference is not below 0: the far end lies at least as deep as the arc reaches.
 -- Assumes nothing.
 use mathlib.Core.Path.{_≡_}
 use native.Mathlib.Omega.{arith}
+use Prim.Native.Nat.{_+_}
 use lib.IntN.{ℤ, _+ℤ_, _-ℤ_}
 use Rattle.signed.specs.Bits.{ReadsAs, rd, plus, minus, within, back, reach}
 use Rattle.signed.specs.Parts.{dn, Sum, Dif, sum, dif, abs, apart, not-below}
+use Rattle.planrow.specs.State.{lowest}
 use Rattle.planrow.proofs.arcs.length_left.Statement.{statement}
 use Rattle.planrow.proofs.arcs.length_left.Tie as tie
 
@@ -22,11 +24,11 @@ lack-parts : (s : tie.Start) → Dif (reach-of s) (s .args .far) (lack-of s)
 lack-parts s = dif (reach-of s) (s .args .far)
 
 reaches : (s : tie.Start) → ReadsAs (rd (s .args .cost) +ℤ rd (s .args .near)) (reach-of s)
-reaches s = plus (s .args .cost) (s .args .near) (back (s .fits .cost)) (back (s .fits .near)) (within _ 600000000 (omega arith) (omega (arith, reach-parts s)))
+reaches s = plus (s .args .cost) (s .args .near) (back (s .fits .cost)) (back (s .fits .near)) (within _ (lowest + 1000000) (omega arith) (omega (arith, reach-parts s)))
 
 lacks : (s : tie.Start) → ReadsAs (rd (rd (s .args .cost) +ℤ rd (s .args .near)) -ℤ rd (s .args .far)) (lack-of s)
 lacks s =
-    minus (reach-of s) (s .args .far) (reaches s .again) (back (s .fits .far)) (within _ 600000000 (omega arith) (omega (arith, reach-parts s, lack-parts s)))
+    minus (reach-of s) (s .args .far) (reaches s .again) (back (s .fits .far)) (within _ (lowest + 1000000) (omega arith) (omega (arith, reach-parts s, lack-parts s)))
 
 not-under : (s : tie.Start) → dn (lack-of s) ≡ 0
 not-under s = omega (arith, reach-parts s, lack-parts s, apart (lack-of s))
