@@ -4,19 +4,12 @@ use mathlib.Core.Bool.{Bool, false}
 use mathlib.Core.List.{List}
 use Prim.Native.Nat.{ℕ, _+_, _<_}
 use native.Mathlib.Omega.{arith}
-use borrow.Author.Count.{below-more}
 use lib.ListN.{length, getD, set, length-set}
-use lib.Seq.{getD-set-same, getD-set-other}
 use lib.IntN.{ℤ, pos}
 use Rattle.sums.specs.At.{at}
-use Rattle.sums.specs.Filled.{filled-none, filled-more}
+use Rattle.sums.specs.Filled.{stored, filled-none, filled-more}
 use Rattle.planrow.specs.State.{flag}
 use Rattle.cells.specs.Reordered.{Arranged, PutBack}
-
--- what a list holds up to its next place, after a store there
-stored : {A : Type 0} (f : ℕ → A) (xs : List A) (d : A) {n : ℕ} → ((i : ℕ) → i < n → getD xs i d ≡ f i) → n < length xs → (i : ℕ) → i < n + 1 → getD (set xs n (f n)) i d ≡ f i
-stored {A} f xs d {n} was l =
-    below-more (λ (i : ℕ). getD (set xs n (f n)) i d ≡ f i) n (λ i h. getD-set-other xs n i (f n) d (λ q. omega arith) ∙ was i h) (getD-set-same xs n (f n) d l)
 
 -- n candidates are set, in arrays of 256 places
 pub record Arranging (n : ℕ) (order lo hi : List ℕ) (cost : List ℤ) (los his : List ℕ) (costs : List ℤ) : Type 0 where
@@ -43,7 +36,7 @@ arranging-more {n} {order} {lo} {hi} {cost} {los} {his} {costs} was l = record {
   so-far = record {
     lower = filled-more _ (was .so-far .lower) (omega arith) refl;
     upper = filled-more _ (was .so-far .upper) (omega arith) refl;
-    paid = stored (λ i. getD cost (at order i) (pos 0)) costs (pos 0) (was .so-far .paid) (omega arith);
+    paid = stored (λ z. z) (λ i. getD cost (at order i) (pos 0)) costs (pos 0) (was .so-far .paid) (omega arith) _ refl;
   };
   lo-places = length-set los n _ ∙ was .lo-places;
   hi-places = length-set his n _ ∙ was .hi-places;
@@ -60,6 +53,6 @@ putting-none place keeps kept all = record { so-far = record { is = λ r l. absu
 
 pub putting-more : {n : ℕ} {place : List ℕ} {keeps kept : List Bool} → PuttingBack n place keeps kept → n < 256 → PuttingBack (n + 1) place keeps (set kept n (flag keeps (at place n)))
 putting-more {n} {place} {keeps} {kept} was l = record {
-  so-far = record { is = stored (λ r. flag keeps (at place r)) kept false (was .so-far .is) (omega arith) };
+  so-far = record { is = stored (λ t. t) (λ r. flag keeps (at place r)) kept false (was .so-far .is) (omega arith) _ refl };
   places = length-set kept n _ ∙ was .places;
 }

@@ -1,14 +1,12 @@
 -- Requests laid on the row one after another: one turn more gives the next candidate its lower end, its upper end and its cost. Assumes nothing.
-use mathlib.Core.Path.{_≡_, ap, _∙_}
+use mathlib.Core.Path.{_≡_, _∙_}
 use mathlib.Core.List.{List}
 use Prim.Native.Nat.{ℕ, _+_, _<_, min, max}
 use native.Mathlib.Omega.{arith}
-use borrow.Author.Count.{below-more}
 use lib.ListN.{length, getD, set, length-set}
-use lib.Seq.{getD-set-same, getD-set-other}
 use lib.IntN.{ℤ, pos}
 use Rattle.sums.specs.At.{at}
-use Rattle.sums.specs.Filled.{filled-none, filled-more}
+use Rattle.sums.specs.Filled.{stored, filled-none, filled-more}
 use Rattle.signed.specs.Parts.{up, dn}
 use Rattle.cells.specs.Steps.{Candidates}
 
@@ -27,13 +25,6 @@ laying-none a b profits lo hi cost los his costs = record {
   cost-places = costs;
 }
 
--- what holds of a column's parts, after a store at its next place
-stored : (part : ℤ → ℕ) (f : ℕ → ℕ) (cost : List ℤ) {n : ℕ} → ((i : ℕ) → i < n → part (getD cost i (pos 0)) ≡ f i) → n < length cost → (z : ℤ) → part z ≡ f n → (i : ℕ) → i < n + 1 → part (getD (set cost n z) i (pos 0)) ≡ f i
-stored part f cost {n} was l z e =
-    below-more (λ (i : ℕ). part (getD (set cost n z) i (pos 0)) ≡ f i) n
-    (λ i h. ap part (getD-set-other cost n i z (pos 0) (λ q. omega arith)) ∙ was i h)
-    (ap part (getD-set-same cost n z (pos 0) l) ∙ e)
-
 pub laying-more :
     {n : ℕ} {a b profits lo hi : List ℕ} {cost : List ℤ} {v w : ℕ} (z : ℤ)
     → Laying n a b profits lo hi cost → n < 256
@@ -43,8 +34,8 @@ laying-more {n} {a} {b} {profits} {lo} {hi} {cost} {v} {w} z was l low high not-
   so-far = record {
     lower = filled-more v (was .so-far .lower) (omega arith) low;
     upper = filled-more w (was .so-far .upper) (omega arith) high;
-    not-above = stored up (λ i. 0) cost (was .so-far .not-above) (omega arith) z not-above;
-    profit = stored dn (at profits) cost (was .so-far .profit) (omega arith) z paid;
+    not-above = stored up (λ i. 0) cost (pos 0) (was .so-far .not-above) (omega arith) z not-above;
+    profit = stored dn (at profits) cost (pos 0) (was .so-far .profit) (omega arith) z paid;
   };
   lo-places = length-set lo n v ∙ was .lo-places;
   hi-places = length-set hi n w ∙ was .hi-places;

@@ -1,12 +1,11 @@
 -- A search's labels and ranks are laid out node by node: those before v are done. At the end b alone is given the label 0. Assumes nothing.
 use mathlib.Core.List.{List}
-use mathlib.Core.Logic.{⊎-elim}
-use mathlib.Core.Path.{_≡_, _∙_}
+use mathlib.Core.Path.{_≡_, refl, _∙_}
 use Prim.Native.Nat.{ℕ, suc, _+_, _≤_, _<_}
 use native.Mathlib.Omega.{arith}
 use lib.ListN.{length, set, length-set}
 use lib.Seq.{getD-set-same, getD-set-other}
-use Rattle.sums.specs.Each.{same-or-not}
+use Rattle.sums.specs.Filled.{stored}
 use Rattle.planrow.specs.State.{at, Fresh}
 
 pub record LaidOut (cells most v : ℕ) (label rank : List ℕ) : Type 0 where
@@ -15,11 +14,6 @@ pub record LaidOut (cells most v : ℕ) (label rank : List ℕ) : Type 0 where
   pub ranks : length rank ≡ 128
   pub far : (w : ℕ) → w < v → at label w ≡ most
   pub still : (w : ℕ) → w < v → at rank w ≡ 0
-
--- entries before v that are a, and entry v set to a
-one-more : (xs : List ℕ) {a v : ℕ} → length xs ≡ 128 → v < 128 → ((w : ℕ) → w < v → at xs w ≡ a) → (w : ℕ) → w < v + 1 → at (set xs v a) w ≡ a
-one-more xs {a} {v} long inside before w h =
-    ⊎-elim (λ q. rw q (getD-set-same xs v a 0 (omega arith))) (λ n. getD-set-other xs v w a 0 n ∙ before w (omega arith)) (same-or-not w v)
 
 pub laid-none : {cells most : ℕ} {label rank : List ℕ} → length label ≡ 128 → length rank ≡ 128 → LaidOut cells most 0 label rank
 laid-none labels ranks = record { reach = omega arith; labels = labels; ranks = ranks; far = λ w h. absurd (omega arith); still = λ w h. absurd (omega arith) }
@@ -30,8 +24,8 @@ module _ {cells most v : ℕ} {label rank : List ℕ} (small : cells ≤ 127) (l
     reach = omega arith;
     labels = length-set label v most ∙ l .labels;
     ranks = length-set rank v 0 ∙ l .ranks;
-    far = one-more label (l .labels) (omega arith) (l .far);
-    still = one-more rank (l .ranks) (omega arith) (l .still);
+    far = stored (λ x. x) (λ w. most) label 0 (l .far) (omega (arith, l .labels)) most refl;
+    still = stored (λ x. x) (λ w. 0) rank 0 (l .still) (omega (arith, l .ranks)) 0 refl;
   }
 
   pub laid-out : {b : ℕ} → cells < v → b ≤ cells → Fresh cells b most (set label b 0) rank

@@ -10,9 +10,9 @@ use native.Mathlib.Omega.{arith}
 use borrow.Author.Count.{below-more}
 use borrow.Author.Tests.{eq-eqb}
 use lib.ListN.{length, getD, set, length-set}
-use lib.Seq.{getD-set-same, getD-set-other}
 use lib.Dec.{T, eqb, T-not}
 use Rattle.sums.specs.Each.{of-yes}
+use Rattle.sums.specs.Filled.{stored}
 use Rattle.records.specs.declared.Network.{Network}
 use Rattle.records.specs.declared.Refusal.{Refusal}
 use Rattle.records.specs.declared.Reading.{Reading}
@@ -91,11 +91,8 @@ module _ {A B : Type 0} (s : Series A B) where
       record {
         sized = length-set l n v ∙ p .sized;
         got = below-more _ n (p .got) e;
-        filled = below-more (λ i. s .means (getD (set l n v) i (s .empty)) ≡ s .wants i) n kept (ap (s .means) (getD-set-same l n v (s .empty) (omega arith)) ∙ m);
+        filled = stored (s .means) (s .wants) l (s .empty) (p .filled) (omega arith) v m;
       }
-    where
-      kept : (i : ℕ) → i < n → s .means (getD (set l n v) i (s .empty)) ≡ s .wants i
-      kept i k = ap (s .means) (getD-set-other l n i v (s .empty) (λ q. omega arith)) ∙ p .filled i k
 
   pub stopped-here :
       (l : List A) (n k : ℕ) (network : Network) (r : Reading) (refusal told : Refusal)

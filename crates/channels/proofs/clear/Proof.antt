@@ -1,17 +1,13 @@
 -- `channels::clear` meets its contract. The first j channels are 0 and the list is as long as it came: a store makes the next one 0 and leaves the others.
 -- Each turn leaves one fewer. Assumes nothing.
-use mathlib.Core.List.{List}
 use mathlib.Core.Path.{_≡_, refl, _∙_}
-use Prim.Native.Nat.{ℕ, _+_, _-_, _≤_, _<_}
+use Prim.Native.Nat.{ℕ, _-_, _≤_, _<_}
 use native.Mathlib.Omega.{arith}
-use borrow.Author.Count.{below-none, below-more}
-use lib.ListN.{getD, set, length, length-set}
-use lib.Seq.{getD-set-same, getD-set-other}
+use borrow.Author.Count.{below-none}
+use lib.ListN.{getD, length, length-set}
+use Rattle.sums.specs.Filled.{stored}
 use Rattle.channels.proofs.clear.Statement.{statement}
 use Rattle.channels.proofs.clear.Tie as tie
-
-one-more : (xs : List ℕ) (j : ℕ) → j < length xs → ((i : ℕ) → i < j → getD xs i 0 ≡ 0) → (i : ℕ) → i < j + 1 → getD (set xs j 0) i 0 ≡ 0
-one-more xs j l below = below-more _ j (λ i h. getD-set-other xs j i 0 0 (λ q. omega arith) ∙ below i h) (getD-set-same xs j 0 0 l)
 
 abbrev Inv-loop : tie.InvT-loop
 Inv-loop count channel₀ j₀ channel j = (j ≤ count) × (length channel ≡ length channel₀) × ((i : ℕ) → i < j → getD channel i 0 ≡ 0)
@@ -25,7 +21,7 @@ loop-holds c = (omega arith, refl, below-none _)
 loop-again : tie.Need-loop-again Inv-loop μ-loop
 loop-again c =
     let here = c .before .loop in
-    (omega arith, length-set (here .channel) (here .j) 0 ∙ here .inv .1, one-more (here .channel) (here .j) (omega arith) (here .inv .2))
+    (omega arith, length-set (here .channel) (here .j) 0 ∙ here .inv .1, stored (λ x. x) (λ i. 0) (here .channel) 0 (here .inv .2) (omega arith) 0 refl)
 
 same-length : tie.Need-same-length Inv-loop μ-loop
 same-length c = c .before .loop .inv .1
