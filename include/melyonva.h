@@ -6,7 +6,8 @@
  *
  * What they do take from the caller, as any C function does (docs/TRUST.md): a pointer with a length points to that many bytes that stay readable (and, for
  * lists that are written, writable) during the call, and the lists that melyonva_plan() writes overlap neither each other nor the book. (The checker only reads,
- * so its lists may overlap.) A NULL pointer with length 0 is an empty list and safe. melyonva_plan_checked() below tests for NULL with a length and for overlap
+ * so its lists may overlap.) During the call nobody else writes to any of them, or reads those that are written: a book in memory that others may change is
+ * copied first. A NULL pointer with length 0 is an empty list and safe. melyonva_plan_checked() below tests for NULL with a length and for overlap
  * before it calls, melyonva_check_checked() for NULL with a length.
  *
  * A call needs about 83 KiB of stack (84,504 bytes were used by a plan of the largest books, 55,000 by a check).
@@ -21,8 +22,10 @@
 extern "C" {
 #endif
 
-/* Limits of document 01. Lists of this many bytes are long enough for every book. */
+/* Limits of document 01. Entry and price lists of this many bytes are long enough for every book. A file is read into MELYONVA_BOOK_ROOM bytes or more: one that
+ * is too long is then refused (1), whereas cut to the longest length it might be another book, and in order. */
 #define MELYONVA_MAX_BOOK_BYTES 5136u
+#define MELYONVA_BOOK_ROOM (MELYONVA_MAX_BOOK_BYTES + 1u)
 #define MELYONVA_MAX_REQUESTS 256u
 #define MELYONVA_MAX_SPANS 64u
 #define MELYONVA_MAX_ENTRY_BYTES (2u * MELYONVA_MAX_REQUESTS)
@@ -35,12 +38,14 @@ extern "C" {
  * On a ring `prices` is neither read nor written. */
 uint64_t melyonva_plan(const uint8_t *book, size_t book_len, uint8_t *entries, size_t entries_len, uint8_t *prices, size_t prices_len);
 
-/* Checks a plan at prices, for a line's book: 1 is yes, 0 is no, anything else is a packed refusal. It writes nothing. */
+/* Checks a plan at prices, for a line's book: 1 is yes, 0 is no, anything else is a packed refusal, so ask melyonva_is_yes() below. It writes nothing. */
 uint64_t melyonva_check(const uint8_t *book, size_t book_len, const uint8_t *entries, size_t entries_len, const uint8_t *prices, size_t prices_len);
 
 /* ---- the answer: bit 63 set is a refusal */
 
 static inline int melyonva_is_refusal(uint64_t answer) { return (int)(answer >> 63); }
+/* of a check: yes, and neither no nor a refusal */
+static inline int melyonva_is_yes(uint64_t answer) { return answer == 1; }
 /* of a refusal: its number (1 to 15 today) and its place */
 static inline uint32_t melyonva_refusal_number(uint64_t answer) { return (uint32_t)((answer >> 32) & 0x7fffffffu); }
 static inline uint32_t melyonva_refusal_place(uint64_t answer) { return (uint32_t)(answer & 0xffffffffu); }

@@ -3,6 +3,7 @@
 # plans the no that they deserve, a ring its refusal.
 set -u
 cd "$(dirname "$0")/.." || exit 2
+mkdir -p target
 [ -n "${DESK_BUILT:-}" ] || rt staticlib desk >target/desk.log 2>&1 || { tail -n 20 target/desk.log; echo 'check: the static library was not built'; exit 1; }
 work=$(mktemp -d) || exit 2
 trap 'rm -rf "$work"' EXIT
@@ -26,7 +27,14 @@ printf '1 1 1\n' >"$work/plan"; expect 1 'no: request 1 has no way 1' books/B "$
 printf '1 2 3\n' >"$work/plan"; expect 1 'no: request 1 is on channel 3 of 2' books/B "$work/plan" "$work/prices"
 printf '1 2 1\n1 2 2\n' >"$work/plan"; expect 2 'plan line 2: request 1 is named on line 1 already' books/B "$work/plan" "$work/prices"
 printf '1 2 1\n2 1 1\n3 1 2\n4 1 1\n' >"$work/plan"; expect 2 'plan line 4: the book has no request 4' books/B "$work/plan" "$work/prices"
+# what cannot be read is no empty plan; a line that is cut is no line; a file for standard input
+expect 2 "$work: Is a directory" books/B "$work" "$work/prices"
+expect 2 "$work: Is a directory" books/B "$work/plan" "$work"
+printf '1 2 1\0 2 1 1\n' >"$work/plan"; expect 2 "$work/plan:1: a line too long, or a zero byte" books/B "$work/plan" "$work/prices"
+printf '0\n4\n0\n0\n' >"$work/more"; printf '1 2 1\n2 1 1\n3 1 2\n' >"$work/plan"; expect 2 'prices: the book has 3 spans' books/B "$work/plan" "$work/more"
+expect 0 yes - "$work/plan" "$work/prices" <books/B
 printf '1 2 3\n' >"$work/plan"
+printf '0\n4\n4294967296\n' >"$work/prices"; expect 3 'refused 13 at 2' books/B "$work/plan" "$work/prices"
 printf '0\n4\n1000001\n' >"$work/prices"; expect 3 'refused 13 at 2' books/B "$work/plan" "$work/prices"
 printf '0\n4\n' >"$work/prices"; expect 3 'refused 12 at 0' books/B "$work/plan" "$work/prices"
 expect 3 'refused 14 at 0' books/E /dev/null /dev/null

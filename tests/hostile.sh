@@ -3,6 +3,7 @@
 # CALLS says how many (default 400000); where valgrind is installed, a twentieth of them again under it, which sees every access outside a list.
 set -u
 cd "$(dirname "$0")/.." || exit 2
+mkdir -p target
 [ -n "${DESK_BUILT:-}" ] || rt staticlib desk >target/desk.log 2>&1 || { tail -n 20 target/desk.log; echo 'hostile: the static library was not built'; exit 1; }
 work=$(mktemp -d) || exit 2
 trap 'rm -rf "$work"' EXIT

@@ -22,7 +22,7 @@ req() { printf '\x03\x00'; two "$1"; two "$2"; two "$3"; two $(($4 / 65536)); tw
 reqs() { local i; for ((i = 0; i < $1; i++)); do req "$i" 0 1 7; done; }
 spans() { local i; for ((i = 0; i < $1; i++)); do span "$i" 1 1; done; }
 
-# case NAME EXPECTED-FIRST-LINE < book
+# check NAME EXPECTED-FIRST-LINE < book
 check() {
   local got; got=$("$light" | head -n 1)
   [ "$got" = "$2" ] || { echo "printing: $1: got '$got', wanted '$2'"; failed=1; }

@@ -1,6 +1,7 @@
 /* check: checks a plan for a line, from anyone, at prices, with the proved checker (include/melyonva.h, docs/CHECKING.md).
  *
- *   check BOOK PLAN PRICES   PLAN: one line a kept request, "NUMBER WAY CHANNEL" (lines with way and channel 0 0 are taken too); PRICES: one a line, span 0 first.
+ *   check BOOK PLAN PRICES   PLAN: one line a kept request, "NUMBER WAY CHANNEL" (lines with way and channel 0 0 are taken too); PRICES: one a line, span 0 first,
+ *                            no more than the book has spans. One of the three may be "-", standard input.
  *                            Writes `yes`, `no: ..` with the first broken rule or the two sums, or `refused N at P`.
  *   check --plan BOOK        our own planner's plan, in that form
  *   check --prices BOOK      our own planner's prices, in that form (a line's book)
@@ -16,11 +17,11 @@ enum { ROOM = 8192 };
 
 static size_t read_book(const char *name, uint8_t *to)
 {
-    FILE *f = fopen(name, "rb");
+    FILE *f = strcmp(name, "-") ? fopen(name, "rb") : stdin;
     if (!f) { perror(name); exit(2); }
     size_t n = fread(to, 1, ROOM, f);
     if (ferror(f)) { perror(name); exit(2); }
-    fclose(f);
+    if (f != stdin) fclose(f);
     return n;
 }
 
@@ -40,6 +41,19 @@ static unsigned spans(const uint8_t *book) { return book[1] == 2 ? nodes(book) :
 static unsigned limit(const uint8_t *book, unsigned s) { return two(book + 16 * (1 + s) + 4); }
 static const uint8_t *request(const uint8_t *book, unsigned i) { return book + 16 * (1 + spans(book) + i); }
 
+static void wrong_line(const char *name, unsigned number, int each)
+{
+    fprintf(stderr, each == 1 ? "%s:%u: one whole number expected\n" : "%s:%u: three whole numbers expected\n", name, number);
+    exit(2);
+}
+
+/* What was said is written, or the status is 2. */
+static int ended(int status)
+{
+    if (fflush(stdout) || ferror(stdout)) { perror("check"); return 2; }
+    return status;
+}
+
 /* Reads whole numbers, so many a line, and hands each line on; anything else is an error. */
 static void lines(const char *name, int each, void (*take)(void *, const unsigned long *, unsigned), void *to)
 {
@@ -51,17 +65,19 @@ static void lines(const char *name, int each, void (*take)(void *, const unsigne
         unsigned long v[3] = {0, 0, 0};
         char *p = line;
         number++;
+        if (!memchr(line, '\n', strlen(line)) && !feof(f)) { fprintf(stderr, "%s:%u: a line too long, or a zero byte\n", name, number); exit(2); }
         if (line[strspn(line, " \t\r\n")] == '\0') continue;
         for (int i = 0; i < each; i++) {
             char *end;
             p += strspn(p, " \t");
-            if (*p < '0' || *p > '9') { fprintf(stderr, "%s:%u: %d whole numbers expected\n", name, number, each); exit(2); }
+            if (*p < '0' || *p > '9') wrong_line(name, number, each);
             v[i] = strtoul(p, &end, 10);
             p = end;
         }
-        if (p[strspn(p, " \t\r\n")] != '\0') { fprintf(stderr, "%s:%u: %d whole numbers expected\n", name, number, each); exit(2); }
+        if (p[strspn(p, " \t\r\n")] != '\0') wrong_line(name, number, each);
         take(to, v, number);
     }
+    if (ferror(f)) { perror(name); exit(2); }
     if (f != stdin) fclose(f);
 }
 
@@ -82,8 +98,10 @@ static void take_entry(void *to, const unsigned long *v, unsigned line)
 static void take_price(void *to, const unsigned long *v, unsigned line)
 {
     struct prices *p = to;
-    if (p->count >= MELYONVA_MAX_SPANS || v[0] > 0xffffffffUL) { fprintf(stderr, "prices line %u: too many prices, or one too large\n", line); exit(2); }
-    for (int i = 0; i < 4; i++) p->bytes[4 * p->count + i] = (uint8_t)(v[0] >> (24 - 8 * i));
+    /* a price that four bytes do not hold is above 1,000,000 like the largest that they do, and is refused at its span */
+    unsigned long price = v[0] > 0xffffffffUL ? 0xffffffffUL : v[0];
+    if (p->count >= MELYONVA_MAX_SPANS) { fprintf(stderr, "prices line %u: no line has so many spans\n", line); exit(2); }
+    for (int i = 0; i < 4; i++) p->bytes[4 * p->count + i] = (uint8_t)(price >> (24 - 8 * i));
     p->count++;
 }
 
@@ -127,14 +145,14 @@ static int ours(const char *name, int wants_prices)
     uint8_t book[ROOM], entries[MELYONVA_MAX_ENTRY_BYTES] = {0}, prices[4 * MELYONVA_MAX_SPANS] = {0};
     size_t n = read_book(name, book);
     uint64_t answer = melyonva_plan_checked(book, n, entries, sizeof entries, prices, sizeof prices);
-    if (refused(answer)) return 3;
+    if (refused(answer)) return ended(3);
     if (wants_prices && book[1] == 2) { fprintf(stderr, "check: a ring has no prices\n"); return 2; }
     if (wants_prices)
         for (unsigned s = 0; s < spans(book); s++) printf("%u\n", melyonva_price(prices, s));
     else
         for (unsigned i = 0; i < n / 16 - 1 - spans(book); i++)
             if (melyonva_entry(entries, i) != 0) printf("%u %u %u\n", i, melyonva_way(melyonva_entry(entries, i)), melyonva_channel(melyonva_entry(entries, i)));
-    return 0;
+    return ended(0);
 }
 
 int main(int argc, char **argv)
@@ -149,11 +167,12 @@ int main(int argc, char **argv)
     lines(argv[2], 3, take_entry, &e);
     lines(argv[3], 1, take_price, &p);
     uint64_t answer = melyonva_check_checked(book, n, e.bytes, sizeof e.bytes, p.bytes, 4 * p.count);
-    if (refused(answer)) return 3;
+    if (refused(answer)) return ended(3);
+    if (p.count > spans(book)) { fprintf(stderr, "prices: the book has %u spans\n", spans(book)); return 2; }
     unsigned m = (unsigned)(n / 16 - 1 - spans(book));
     for (unsigned i = m; i < MELYONVA_MAX_REQUESTS; i++)
         if (e.line[i] != 0) { fprintf(stderr, "plan line %u: the book has no request %u\n", e.line[i], i); return 2; }
-    if (answer == 1) { printf("yes\n"); return 0; }
+    if (melyonva_is_yes(answer)) { printf("yes\n"); return ended(0); }
     explain(book, m, e.bytes, p.bytes);
-    return 1;
+    return ended(1);
 }

@@ -36,8 +36,21 @@ static size_t make(uint8_t *b)
     return len;
 }
 
+/* The wrappers refuse NULL with a length, and the planner's lists that overlap; lists side by side are fine. */
+static int wrappers_right(void)
+{
+    uint8_t all[64] = {0};
+    uint64_t bad = MELYONVA_BAD_ARGUMENTS;
+    if (melyonva_plan_checked(NULL, 1, all, 8, all + 8, 8) != bad || melyonva_plan_checked(all, 8, NULL, 1, all + 8, 8) != bad || melyonva_plan_checked(all, 8, all + 8, 8, NULL, 1) != bad) return 0;
+    if (melyonva_plan_checked(all, 9, all + 8, 8, all + 32, 8) != bad || melyonva_plan_checked(all, 8, all + 32, 8, all + 7, 8) != bad || melyonva_plan_checked(all, 8, all + 16, 8, all + 23, 8) != bad) return 0;
+    if (melyonva_plan_checked(all, SIZE_MAX, all, 0, all, 1) != bad) return 0;
+    if (melyonva_check_checked(NULL, 1, all, 8, all, 8) != bad || melyonva_check_checked(all, 8, NULL, 1, all, 8) != bad || melyonva_check_checked(all, 8, all, 8, NULL, 1) != bad) return 0;
+    return melyonva_plan_checked(all, 8, all + 8, 8, all + 16, 8) != bad && melyonva_plan_checked(NULL, 0, NULL, 0, NULL, 0) != bad && melyonva_check_checked(all, 8, all, 8, all, 8) != bad;
+}
+
 int main(int argc, char **argv)
 {
+    if (!wrappers_right()) { puts("hostile: a wrapper lets bad arguments through, or refuses good ones"); return 1; }
     unsigned long calls = argc > 1 ? strtoul(argv[1], NULL, 10) : 1000000, refusals = 0, yes = 0;
     if (argc > 2) state ^= strtoull(argv[2], NULL, 10) * 2654435761u;
     for (unsigned long c = 0; c < calls; c += 2) {
@@ -60,7 +73,7 @@ int main(int argc, char **argv)
             if (memcmp(e + 2 * m, was_e + 2 * m, en - 2 * m)) { puts("hostile: bytes after the entries changed"); return 1; }
             size_t from = b[1] == 2 ? 0 : 4 * (size_t)spans;
             if (memcmp(p + from, was_p + from, pn - from)) { puts("hostile: bytes after the prices changed"); return 1; }
-            if (b[1] == 1 && melyonva_check(b, n, e, en, p, pn) != 1) { puts("hostile: our own plan got no yes"); return 1; }
+            if (b[1] == 1 && !melyonva_is_yes(melyonva_check(b, n, e, en, p, pn))) { puts("hostile: our own plan got no yes"); return 1; }
         }
         yes += v == 1;
         free(b), free(e), free(p);
