@@ -11,7 +11,7 @@ use borrow.Author.Tests.{ltb-true, ltb-false, lt-ltb, le-ltb}
 use Rattle.sums.specs.Each.{Sought, sought, first-is, less-or-not, of-yes, fails}
 use Rattle.book.specs.Book.{Book}
 use Rattle.book.specs.Refusals.{records, spansIn, broken, fault, faulty}
-use Rattle.book.specs.Reading.{done, refused, due, bookOf, faultyRecord, reading}
+use Rattle.book.specs.Reading.{done, refused, due, bookOf, faultyRecord, reading, refused-not-done}
 
 -- row n is broken at record p, and nothing earlier in file order, nor lower in that record, is
 pub record Given (f : List ℕ) (n p : ℕ) : Type 0 where
@@ -79,18 +79,13 @@ found f h =
 -- ---- the laws
 
 pub refused-given : (f : List ℕ) (n p : ℕ) → reading f ≡ refused n p → Given f n p
-refused-given f n p e = ⊎-elim given (λ h. absurd (not-done (finished f h))) (less-or-not (faultyRecord f) (due f))
+refused-given f n p e = ⊎-elim given (λ h. absurd (refused-not-done (sym e ∙ finished f h))) (less-or-not (faultyRecord f) (due f))
   where
     given : faultyRecord f < due f → Given f n p
     given h =
         let number : fault f (faultyRecord f) ≡ n = cc (stopped f h) in
         let place : faultyRecord f ≡ p = cc (stopped f h) in
         subst₂ (Given f) number place (found f h)
-
-    not-done : reading f ≡ done (bookOf f) → ⊥
-    not-done d =
-        let z : _≡_ {A = ℕ} 0 1 = cc in
-        omega arith
 
 -- the first broken row and the first faulty record are those that `Given` names
 number-is : (f : List ℕ) (n p : ℕ) → Given f n p → fault f p ≡ n
@@ -107,13 +102,8 @@ pub given-refused : (f : List ℕ) (n p : ℕ) → Given f n p → reading f ≡
 given-refused f n p g = stopped f (omega (arith, place-is f n p g)) ∙ rw (place-is f n p g, number-is f n p g)
 
 pub read-clean : (f : List ℕ) (book : Book) → reading f ≡ done book → (book ≡ bookOf f) × ((r m : ℕ) → r < due f → m < 12 → broken f r m ≡ false)
-read-clean f book e = ⊎-elim (λ h. absurd (not-refused (stopped f h))) clean (less-or-not (faultyRecord f) (due f))
+read-clean f book e = ⊎-elim (λ h. absurd (refused-not-done (sym (stopped f h) ∙ e))) clean (less-or-not (faultyRecord f) (due f))
   where
-    not-refused : reading f ≡ refused (fault f (faultyRecord f)) (faultyRecord f) → ⊥
-    not-refused d =
-        let z : _≡_ {A = ℕ} 0 1 = cc in
-        omega arith
-
     clean : due f ≤ faultyRecord f → (book ≡ bookOf f) × ((r m : ℕ) → r < due f → m < 12 → broken f r m ≡ false)
     clean h = (cc (finished f h), λ r m l. unbroken f r (earliest f .passed r (omega arith) (omega arith)) m)
 

@@ -2,7 +2,9 @@
 -- Of a refused book only its number and place are said. Assumes nothing.
 use mathlib.Core.Bool.{cond}
 use mathlib.Core.List.{List}
+use mathlib.Core.Path.{_≡_}
 use Prim.Native.Nat.{ℕ, _+_, _-_, max}
+use native.Mathlib.Omega.{arith}
 use lib.Dec.{ltb}
 use Rattle.sums.specs.Each.{first}
 use Rattle.sums.specs.Table.{table}
@@ -45,3 +47,7 @@ unfoldable pub reading : List ℕ → Outcome Book
 reading f =
     let r = faultyRecord f in
     cond (ltb r (due f)) (refused (fault f r) (place f r)) (done (bookOf f))
+
+-- a refusal is no answer
+pub refused-not-done : {A : Type 0} {x : A} {n p : ℕ} → refused n p ≡ done x → ⊥
+refused-not-done e = let z : _≡_ {A = ℕ} 0 1 = cc in omega arith

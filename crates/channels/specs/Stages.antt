@@ -21,6 +21,17 @@ use Rattle.channels.specs.declared.Given.the-variants.{All}
 abbrev pub place : ℕ → ℕ → ℕ
 place v i = v * 256 + i
 
+-- the numbers from i to p have no turn at v, where none of them is kept and begins at v: what is kept and before p is before i
+pub passed-over :
+    {count i v p j : ℕ} {lo : List ℕ} {kept : List Bool} → count ≤ 256 → Leads count i v lo kept p → j < count → flag kept j ≡ true
+    → place (at lo j) j < place v p → place (at lo j) j < place v i
+passed-over {i = i} {v} {j = j} {lo} few m l e h = ⊎-elim (λ g. g) (λ g. absurd (now g)) (less-or-not (place (at lo j) j) (place v i))
+  where
+    now : place v i ≤ place (at lo j) j → ⊥
+    now g =
+        let begins : at lo j ≡ v = omega (arith, m .upto) in
+        m .passed j (omega arith) (omega arith) l e begins
+
 -- the channels by the rule: there is one such choice (`ruled-exists` and `ruled-once` of the crate row)
 abbrev pub rule : ℕ → ℕ → ℕ → List ℕ → List ℕ → List Bool → ℕ → ℕ
 rule cells count k lo hi kept = ruled-exists (rowOn cells count lo hi) k (flag kept) .0
@@ -60,23 +71,15 @@ module _ {cells count k : ℕ} {lo hi : List ℕ} {kept : List Bool} {channel en
       real : 0 < at channel j → at channel j ≤ k
       real h = let first = s .only j l h in rw (s .given j l (first .0) (first .1)) (rule-upto (s .can) j l (first .0))
 
-  -- the numbers from i to p are passed over: none of them is kept and begins at v
+  -- the numbers from i to p are passed over
   pub stage-pass : {p : ℕ} → Leads count i v lo kept p → Stage cells count k lo hi kept channel ends v p
   stage-pass {p} m = record {
     can = s .can;
     long = s .long;
-    given = given;
+    given = λ j lj ej h. s .given j lj ej (passed-over (s .can .count-upto) m lj ej h);
     only = λ j lj h. let first = s .only j lj h in (first .0, omega (arith, first .1, m .on));
     latest = s .latest;
   }
-    where
-      given : (j : ℕ) → j < count → flag kept j ≡ true → place (at lo j) j < place v p → at channel j ≡ rule cells count k lo hi kept j
-      given j lj ej h = ⊎-elim (s .given j lj ej) (λ g. absurd (now g)) (less-or-not (place (at lo j) j) (place v i))
-        where
-          now : place v i ≤ place (at lo j) j → ⊥
-          now g =
-              let begins : at lo j ≡ v = omega (arith, s .can .count-upto, m .upto) in
-              m .passed j (omega arith) (omega arith) lj ej begins
 
 module _ {cells count k : ℕ} {lo hi : List ℕ} {kept : List Bool} {channel : List ℕ} where
   pub stage-start : CanHandOut cells count k lo hi kept → length channel ≡ 256 → ((j : ℕ) → j < count → at channel j ≡ 0) → Stage cells count k lo hi kept channel (replicate 128 0) 0 0

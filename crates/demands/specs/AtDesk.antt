@@ -16,9 +16,10 @@ use Rattle.rules.specs.Operations.{plannable, checker}
 use Rattle.lines.specs.Line.{Line}
 use Rattle.lines.specs.Ceiling.{yes-for-best, no-for-others}
 use Rattle.verdict.specs.Demand3.{is-verdict}
+use Rattle.planner.specs.Cases.{plannable-read}
 use Rattle.desk.specs.Packing.{packedVerdict}
 use Rattle.desk.specs.Promise.{Written, EntriesWritten, PricesWritten, Handed, PlanAnswer}
-use Rattle.desk.specs.Bounds.{LongEnough, long-enough, plannable-read}
+use Rattle.desk.specs.Bounds.{LongEnough, long-enough}
 use Rattle.demands.specs.NotRead.{verdict-same}
 
 -- ---- the bytes that are written are the numbers that are read
@@ -58,7 +59,7 @@ module _ {file entries prices entries′ prices′ : List ℕ} {answer : ℕ} (m
 
     read : reading file ≡ done book
     unfolding plannable
-    read = plannable-read file (entryPlaces entries) (pricePlaces prices) book long
+    read = plannable-read file (entryPlaces entries) (pricePlaces prices) book long .0
 
     enough : LongEnough book (entryPlaces entries) (pricePlaces prices)
     unfolding plannable

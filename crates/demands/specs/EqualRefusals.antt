@@ -1,10 +1,9 @@
 -- Two outcomes allowed by the same statement are equal (01, "How far the statements reach"), as far as refusals go: of reading and of
 -- the planner with all that stands beside the refusal, of the checker, and at the desk's boundary with the later content of both lists. Assumes nothing.
 use mathlib.Core.List.{List}
-use mathlib.Core.Path.{_≡_, refl, sym, ap₂, _∙_}
+use mathlib.Core.Path.{_≡_, sym, ap₂, _∙_}
 use Prim.Native.Nat.{ℕ}
-use native.Mathlib.Omega.{arith}
-use Rattle.book.specs.Reading.{refused, reading}
+use Rattle.book.specs.Reading.{refused, reading, refused-not-done}
 use Rattle.rules.specs.Operations.{plannable, checker}
 use Rattle.records.specs.declared.Refusal.{Refusal}
 use Rattle.records.specs.declared.Request.{Request}
@@ -14,8 +13,7 @@ use Rattle.reader.specs.declared.Answer.the-variants as Readers
 use Rattle.reader.specs.Says.{outcomeOf, Reads}
 use Rattle.reader.specs.Accepted.{refused-read}
 use Rattle.verdict.specs.declared.Checked.{Checked}
-use Rattle.verdict.specs.declared.Checked.the-variants.{Yes, No, Refused}
-use Rattle.verdict.specs.Checked.{checkedOf}
+use Rattle.verdict.specs.Checked.{checkedOf, same-checked}
 use Rattle.planner.specs.declared.Answer.the-variants as Planner
 use Rattle.planner.specs.declared.BookPlan.{BookPlan}
 use Rattle.planner.specs.Promise.{BookPlanned}
@@ -33,7 +31,7 @@ same-refusal :
     (answer : Reader.Answer) (limits : List ℕ) (count : ℕ) (requests : List Request) {n p : ℕ} → outcomeOf answer limits count requests ≡ refused n p
     → answer ≡ Readers.Refused (record { number = n; place = p })
 unfolding outcomeOf
-same-refusal (Readers.Accepted net) limits count requests is = let z : _≡_ {A = ℕ} 0 1 = cc in absurd (omega arith)
+same-refusal (Readers.Accepted net) limits count requests is = absurd (refused-not-done (sym is))
 same-refusal (Readers.Refused refusal) limits count requests {n} {p} is =
     let number : refusal .number ≡ n = cc in
     let place : refusal .place ≡ p = cc in
@@ -53,21 +51,6 @@ read-refusal-equal {file} {taken} {other} {refusal} p q e =
     all
 
 -- the checker: the same answer, a refusal with its number and place included
-same-checked : (c d : Checked) → checkedOf c ≡ checkedOf d → c ≡ d
-unfolding checkedOf
-same-checked Yes Yes e = refl
-same-checked Yes No e = let z : _≡_ {A = ℕ} 0 1 = cc in absurd (omega arith)
-same-checked Yes (Refused r) e = let z : _≡_ {A = ℕ} 0 1 = cc in absurd (omega arith)
-same-checked No Yes e = let z : _≡_ {A = ℕ} 0 1 = cc in absurd (omega arith)
-same-checked No No e = refl
-same-checked No (Refused r) e = let z : _≡_ {A = ℕ} 0 1 = cc in absurd (omega arith)
-same-checked (Refused r) Yes e = let z : _≡_ {A = ℕ} 0 1 = cc in absurd (omega arith)
-same-checked (Refused r) No e = let z : _≡_ {A = ℕ} 0 1 = cc in absurd (omega arith)
-same-checked (Refused r) (Refused s) e =
-    let number : r .number ≡ s .number = cc in
-    let place : r .place ≡ s .place = cc in
-    ap₂ (λ n at. Refused (record { number = n; place = at })) number place
-
 pub checked-equal :
     (file entries prices : List ℕ) {c d : Checked} → checkedOf c ≡ checker file entries prices → checkedOf d ≡ checker file entries prices → c ≡ d
 checked-equal file entries prices {c} {d} p q = same-checked c d (p ∙ sym q)

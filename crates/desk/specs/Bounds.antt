@@ -3,19 +3,19 @@
 use mathlib.Core.Bool.{Bool, true, false, cond}
 use mathlib.Core.List.{List}
 use mathlib.Core.Logic.{inl, inr, ⊎-elim}
-use mathlib.Core.Path.{_≡_, refl}
+use mathlib.Core.Path.{_≡_, refl, sym}
 use Prim.Native.Nat.{ℕ, _≤_}
 use native.Mathlib.Omega.{arith}
 use borrow.Author.Tests.{ltb-true}
 use lib.Dec.{ltb}
 use lib.ListN.{length}
-use Rattle.sums.specs.Each.{decided, less-or-not}
+use Rattle.sums.specs.Each.{less-or-not}
 use Rattle.sums.specs.Sums.{when, bit, when-le, bit-le, Σ-most}
 use Rattle.book.specs.Book.{Book, isRing, spans, count, profit}
 use Rattle.book.specs.Bytes.{entryIn, priceIn}
 use Rattle.book.specs.Sound.{Sound, sound}
 use Rattle.book.specs.Refusals.{records, spansIn, nodesIn, shapeIn}
-use Rattle.book.specs.Reading.{Outcome, done, refused, andThen, due, reading}
+use Rattle.book.specs.Reading.{Outcome, done, refused, andThen, due, reading, refused-not-done}
 use Rattle.book.specs.Means.{less, same, not-so, and, or}
 use Rattle.book.specs.InWords.{row-1, row-3}
 use Rattle.book.specs.Laws.{Given, refused-given}
@@ -26,7 +26,7 @@ use Rattle.rules.specs.Operations.{placesShort, tooShort, tooDear, checking, ch
 use Rattle.rings.specs.Ring.{Ring}
 use Rattle.rings.specs.CutLine.{ring-spans}
 use Rattle.rings.specs.Choice.{cut-in}
-use Rattle.planner.specs.Cases.{spans-small}
+use Rattle.planner.specs.Cases.{spans-small, plannable-read, plannable-refused}
 use Rattle.planner.specs.Held.{line-shown, ring-shown}
 
 -- a number and a place that a refusal carries
@@ -54,23 +54,9 @@ given-small {file} {place} given = record { number-upto = omega (arith, given .i
 
 -- the book's refusals and 12
 pub refusal-small : (file : List ℕ) (entryPlaces pricePlaces number place : ℕ) → plannableIn file entryPlaces pricePlaces ≡ refused number place → SmallRefusal number place
-unfolding plannableIn andThen
-refusal-small file entryPlaces pricePlaces number place = by (reading file) refl
-  where
-    by :
-        (o : Outcome Book) → reading file ≡ o → andThen o (λ book. cond (placesShort book entryPlaces pricePlaces) (refused 12 0) (done book)) ≡ refused number place
-        → SmallRefusal number place
-    by (refused n p) is same =
-        let same-number : n ≡ number = cc in
-        let same-place : p ≡ place = cc in
-        rw (same-number, same-place) at (given-small (refused-given file n p is))
-    by (done book) is same = ⊎-elim (λ t. twelve (rw t at same)) (λ t. never (rw t at same)) (decided (placesShort book entryPlaces pricePlaces))
-      where
-        twelve : _≡_ {A = Outcome Book} (refused 12 0) (refused number place) → SmallRefusal number place
-        twelve e = let n : 12 ≡ number = cc in let p : 0 ≡ place = cc in record { number-upto = omega arith; place-upto = omega arith }
-
-        never : done book ≡ refused number place → SmallRefusal number place
-        never e = let z : _≡_ {A = ℕ} 0 1 = cc in absurd (omega arith)
+refusal-small file entryPlaces pricePlaces number place is =
+    ⊎-elim (λ e. given-small (refused-given file number place e)) (λ e. record { number-upto = omega (arith, e .0); place-upto = omega (arith, e .1) })
+    (plannable-refused file entryPlaces pricePlaces number place is)
 
 -- a plan's numbers
 pub plan-small : {book : Book} {plan : Plan} {earned number shown : ℕ} → Sound book → Planned book plan earned number shown → SmallPlan earned number shown
@@ -103,29 +89,7 @@ not-short book entryPlaces pricePlaces e =
     }
 
 pub long-enough : (file : List ℕ) (entryPlaces pricePlaces : ℕ) (book : Book) → plannableIn file entryPlaces pricePlaces ≡ done book → LongEnough book entryPlaces pricePlaces
-unfolding plannableIn andThen
-long-enough file entryPlaces pricePlaces book = by (reading file) refl
-  where
-    by :
-        (o : Outcome Book) → reading file ≡ o → andThen o (λ made. cond (placesShort made entryPlaces pricePlaces) (refused 12 0) (done made)) ≡ done book
-        → LongEnough book entryPlaces pricePlaces
-    by (refused n p) is same = let z : _≡_ {A = ℕ} 0 1 = cc in absurd (omega arith)
-    by (done made) is same = ⊎-elim (λ t. never (rw t at same)) (λ t. long t (rw t at same)) (decided (placesShort made entryPlaces pricePlaces))
-      where
-        never : refused 12 0 ≡ done book → LongEnough book entryPlaces pricePlaces
-        never e = let z : _≡_ {A = ℕ} 0 1 = cc in absurd (omega arith)
-
-        long : placesShort made entryPlaces pricePlaces ≡ false → done made ≡ done book → LongEnough book entryPlaces pricePlaces
-        long t e = let same-book : made ≡ book = cc in rw same-book at (not-short made entryPlaces pricePlaces t)
-
--- and the book is the one that was read
-pub plannable-read : (file : List ℕ) (entryPlaces pricePlaces : ℕ) (book : Book) → plannableIn file entryPlaces pricePlaces ≡ done book → reading file ≡ done book
-unfolding plannableIn andThen
-plannable-read file entryPlaces pricePlaces book = by (reading file)
-  where
-    by : (o : Outcome Book) → andThen o (λ made. cond (placesShort made entryPlaces pricePlaces) (refused 12 0) (done made)) ≡ done book → o ≡ done book
-    by (refused n p) same = same
-    by (done made) same = ⊎-elim (λ t. let z : _≡_ {A = ℕ} 0 1 = cc (rw t at same) in absurd (omega arith)) (λ t. rw t at same) (decided (placesShort made entryPlaces pricePlaces))
+long-enough file entryPlaces pricePlaces book is = not-short book entryPlaces pricePlaces (plannable-read file entryPlaces pricePlaces book is .1)
 
 -- ---- the checker's: the book's, 14, 12 and 13
 
@@ -134,7 +98,7 @@ step : {number place : ℕ} (ring short dear : Bool) (at : ℕ) (verdict : Bool)
 step {number} {place} true short dear at verdict h e = let n : 14 ≡ number = cc in let p : 0 ≡ place = cc in record { number-upto = omega arith; place-upto = omega arith }
 step {number} {place} false true dear at verdict h e = let n : 12 ≡ number = cc in let p : 0 ≡ place = cc in record { number-upto = omega arith; place-upto = omega arith }
 step {number} {place} false false true at verdict h e = let n : 13 ≡ number = cc in let p : at ≡ place = cc in record { number-upto = omega arith; place-upto = omega (arith, h refl) }
-step false false false at verdict h e = let n : _≡_ {A = ℕ} 0 1 = cc in absurd (omega arith)
+step false false false at verdict h e = absurd (refused-not-done (sym e))
 
 checking-small : (book : Book) → Sound book → (entries prices : List ℕ) (number place : ℕ) → checking book entries prices ≡ refused number place → SmallRefusal number place
 unfolding checking spans

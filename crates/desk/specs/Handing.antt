@@ -1,14 +1,14 @@
 -- From the planner's promise to the boundary's: what the planner answers fits the packing and the lists, and once it is packed and written the boundary's
 -- promise holds. One law for each way out: a refusal, a line, a ring. Assumes nothing.
 use mathlib.Core.List.{List}
-use mathlib.Core.Path.{_≡_, refl, _∙_}
+use mathlib.Core.Path.{_≡_, refl, sym, _∙_}
 use Prim.Native.Nat.{ℕ, _/_}
 use native.Mathlib.Omega.{arith}
 use lib.ListN.{length}
 use Rattle.book.specs.Bytes.{entryPlaces, pricePlaces}
 use Rattle.book.specs.Book.{Book, spans}
 use Rattle.book.specs.Columns.{at}
-use Rattle.book.specs.Reading.{done, refused}
+use Rattle.book.specs.Reading.{done, refused, refused-not-done}
 use Rattle.rules.specs.Operations as O
 use Rattle.rules.specs.Operations.{plannable}
 use Rattle.print.specs.Fair.{fair-printable}
@@ -16,7 +16,7 @@ use Rattle.records.specs.declared.Refusal.{Refusal}
 use Rattle.planner.specs.declared.Answer.the-variants.{Planned, Refused}
 use Rattle.planner.specs.declared.BookPlan.{BookPlan}
 use Rattle.planner.specs.Promise.{PlanOf, BookPlanned}
-use Rattle.planner.specs.Cases.{spans-small, is-plan, is-refused, is-planned, plan-holds}
+use Rattle.planner.specs.Cases.{spans-small, plan-answered, is-refused, is-planned, plan-holds}
 use Rattle.desk.specs.Packing.{packedRefusal, packedPlan}
 use Rattle.desk.specs.Promise.{EntriesWritten, PricesWritten, Handed, PlanAnswer}
 use Rattle.desk.specs.Bounds.{SmallRefusal, SmallPlan, LongEnough, refusal-small, plan-small, long-enough}
@@ -28,7 +28,7 @@ answer-refused :
 answer-refused {answer} {number} {place} is packed =
     record {
       refusal = λ n p e. let same-number : number ≡ n = cc in let same-place : place ≡ p = cc in (rw (same-number, same-place) at packed, refl, refl);
-      plan = λ book e. let z : _≡_ {A = ℕ} 0 1 = cc in absurd (omega arith);
+      plan = λ book e. absurd (refused-not-done (sym is ∙ e));
     }
 
 answer-planned :
@@ -36,7 +36,7 @@ answer-planned :
     → PlanAnswer file entries prices answer entries′ prices′
 answer-planned {book} is handed =
     record {
-      refusal = λ n p e. let z : _≡_ {A = ℕ} 0 1 = cc in absurd (omega arith);
+      refusal = λ n p e. absurd (refused-not-done (sym e ∙ is));
       plan = λ other e. let same : book ≡ other = cc in rw same at handed;
     }
 
@@ -59,13 +59,7 @@ module _ {file : List ℕ} (entries prices : List ℕ) {r : BookPlan} (made : Bo
     long = long-enough file (length entries / 2) (length prices / 4) book (is-planned made says .1)
 
     planned : O.Planned book (at (r .entries)) earned number cut
-    planned =
-        let p = plan in
-        let the-answer : Planned (p .earned) (p .number) (p .cut) ≡ Planned earned number cut = cc (is-plan p, says) in
-        let e : p .earned ≡ earned = cc in
-        let n : p .number ≡ number = cc in
-        let c : p .cut ≡ cut = cc in
-        rw (e, n, c) at (p .planned)
+    planned = plan-answered plan says
 
     pub numbers-fit : SmallPlan earned number cut
     numbers-fit = plan-small (plan .sound) planned

@@ -13,9 +13,10 @@ use Rattle.book.specs.Bytes.{entryPlaces, pricePlaces}
 use Rattle.book.specs.Sound.{sound}
 use Rattle.book.specs.Reading.{Outcome, done, refused}
 use Rattle.rules.specs.Operations.{checker, plannable}
+use Rattle.planner.specs.Cases.{plannable-read}
 use Rattle.desk.specs.Packing.{packedRefusal, packedPlan, packedVerdict}
 use Rattle.desk.specs.Promise.{PlanAnswer}
-use Rattle.desk.specs.Bounds.{SmallRefusal, SmallPlan, refusal-small, plan-small, plannable-read, checker-small}
+use Rattle.desk.specs.Bounds.{SmallRefusal, SmallPlan, refusal-small, plan-small, checker-small}
 
 -- ---- bit 63, then the parts
 
@@ -71,4 +72,4 @@ module _ {file entries prices entries′ prices′ : List ℕ} {answer : ℕ} (m
   unfolding plannable
   planner-plan-told book is =
       let plan = made .plan book is in
-      rw (plan .says) (plan-told (plan-small (sound file book (plannable-read file (entryPlaces entries) (pricePlaces prices) book is)) (plan .planned)))
+      rw (plan .says) (plan-told (plan-small (sound file book (plannable-read file (entryPlaces entries) (pricePlaces prices) book is .0)) (plan .planned)))

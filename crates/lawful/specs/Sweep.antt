@@ -15,7 +15,7 @@ use Rattle.sums.specs.Each.{less-or-not, same-or-not}
 use Rattle.book.specs.Columns.{at}
 use Rattle.channels.specs.Latest.{zeros}
 use Rattle.channels.specs.Lists.{CanList, Leads}
-use Rattle.channels.specs.Stages.{place}
+use Rattle.channels.specs.Stages.{place, passed-over}
 use Rattle.lawful.specs.Spans.{over, over-yes, over-from, over-before, ApartSpans, CanSweep}
 
 -- request j crosses a span, and its turn is before that of number i at node v
@@ -92,15 +92,7 @@ module _ {count : ℕ} {lo hi : List ℕ} {crossing : List Bool} {channels : Lis
 
   -- the numbers from i to p are passed over: none of them crosses a span and begins at v
   pub swept-pass : {ends : List ℕ} {v i p : ℕ} → Swept count lo hi crossing channels ends v i → Leads count i v lo crossing p → Swept count lo hi crossing channels ends v p
-  swept-pass {v = v} {i} {p} was m = same-turn was (λ j l r h. omega (arith, m .on)) back
-    where
-      back : (j : ℕ) → j < count → flag crossing j ≡ true → place (at lo j) j < place v p → place (at lo j) j < place v i
-      back j l r h = ⊎-elim (λ g. g) (λ g. absurd (now g)) (less-or-not (place (at lo j) j) (place v i))
-        where
-          now : place v i ≤ place (at lo j) j → ⊥
-          now g =
-              let begins : at lo j ≡ v = omega (arith, can .between .count-upto, m .upto) in
-              m .passed j (omega arith) (omega arith) l r begins
+  swept-pass was m = same-turn was (λ j l r h. omega (arith, m .on)) (λ j l r h. passed-over (can .between .count-upto) m l r h)
 
   -- every number had its turn at node v, whose places end where the next one's begin
   pub swept-next : {ends : List ℕ} {v i : ℕ} → Swept count lo hi crossing channels ends v i → count ≤ i → i ≤ 256 → Swept count lo hi crossing channels ends (v + 1) 0

@@ -12,7 +12,7 @@ use Rattle.sums.specs.Table.{table}
 use Rattle.book.specs.Book as Books
 use Rattle.book.specs.Book.{Book, isLine, spans, spansOf, profit}
 use Rattle.book.specs.Columns.{at}
-use Rattle.book.specs.Reading.{Outcome, done, refused, andThen, reading}
+use Rattle.book.specs.Reading.{Outcome, done, refused, andThen, reading, refused-not-done}
 use Rattle.book.specs.Sound.{Sound, sound}
 use Rattle.rules.specs.Plans.{Plan}
 use Rattle.rules.specs.Operations as O
@@ -25,7 +25,7 @@ use Rattle.records.specs.declared.Refusal.{Refusal}
 use Rattle.planner.specs.declared.BookPlan.{BookPlan}
 use Rattle.planner.specs.declared.Answer.the-variants.{Planned, Refused}
 use Rattle.planner.specs.Promise.{PlanOf, BookPlanned}
-use Rattle.planner.specs.Cases.{is-plan, is-refused, is-planned, plan-holds}
+use Rattle.planner.specs.Cases.{plan-answered, is-refused, is-planned, plan-holds}
 
 -- a plan that the planner could hand back, as text
 pub record PlanPage (book : Book) (out : List ℕ) (r : ℕ) : Type 0 where
@@ -76,7 +76,7 @@ module _ {file : List ℕ} {r : BookPlan} (b : BookPlanned file 256 64 r) where
         inside = put-inside (prints .text);
         later = prints .text .beyond;
         refusal = λ n p h. let is = read in let number : refusal .number ≡ n = cc in let place : refusal .place ≡ p = cc in rw (← number, ← place) (put-front (prints .text));
-        plan = λ book h. let is = read in let z : _≡_ {A = ℕ} 0 1 = cc in absurd (omega arith);
+        plan = λ book h. absurd (refused-not-done (sym read ∙ h));
       }
     where
       read : reading file ≡ refused (refusal .number) (refusal .place)
@@ -102,33 +102,12 @@ module _ {file : List ℕ} {r : BookPlan} (b : BookPlanned file 256 64 r) where
           fits = prints .fits;
           inside = put-inside text;
           later = text .beyond;
-          refusal = λ n p h. let is = read in let z : _≡_ {A = ℕ} 0 1 = cc in absurd (omega arith);
+          refusal = λ n p h. absurd (refused-not-done (sym h ∙ read));
           plan = λ other h. let is = read in let same : book ≡ other = cc in rw same at shown;
         }
       where
         text : Put before after 0 (printedPlan book (at (r .entries)) earned number cut) k
         text = prints .text book (book .limits) (table (Books.count book) (profit book)) (sym (ours .shape-is)) (plan-holds ours)
 
-        told : r .answer ≡ Planned (ours .earned) (ours .number) (ours .cut)
-        told = is-plan ours
-
         shown : PlanPage book after k
-        shown =
-            let first : earned ≡ ours .earned = cc (e, told) in
-            let second : number ≡ ours .number = cc (e, told) in
-            let third : cut ≡ ours .cut = cc (e, told) in
-            record {
-              plan = at (r .entries);
-              earned = earned;
-              number = number;
-              cut = cut;
-              planned = record {
-                fair = ours .planned .fair;
-                best-there = ours .planned .best-there;
-                channels = ours .planned .channels;
-                earned-is = first ∙ ours .planned .earned-is;
-                number-is = second ∙ ours .planned .number-is;
-                cut-is = third ∙ ours .planned .cut-is;
-              };
-              text = put-front text;
-            }
+        shown = record { plan = at (r .entries); earned = earned; number = number; cut = cut; planned = plan-answered ours e; text = put-front text }

@@ -2,15 +2,18 @@
 -- requests stand in the columns handed back. Assumes nothing.
 use mathlib.Core.Bool.{Bool, true, false, cond}
 use mathlib.Core.List.{List}
+use mathlib.Core.Logic.{_⊎_, inl, inr, ⊎-elim}
 use mathlib.Core.Path.{_≡_, refl, sym, ap, ap₂, _∙_}
 use Prim.Native.Nat.{ℕ, _-_, _≤_}
 use native.Mathlib.Omega.{arith}
 use lib.Dec.{eqb}
+use Rattle.sums.specs.Each.{decided}
 use Rattle.sums.specs.Table.{table, table-at}
 use Rattle.book.specs.Book.{Book, spansOf, count, limit, profit}
-use Rattle.book.specs.Columns.{Holds}
-use Rattle.book.specs.Reading.{Outcome, done, refused}
-use Rattle.rules.specs.Operations.{plannableIn}
+use Rattle.book.specs.Columns.{at, Holds}
+use Rattle.book.specs.Reading.{Outcome, done, refused, andThen, reading, refused-not-done}
+use Rattle.rules.specs.Operations as O
+use Rattle.rules.specs.Operations.{placesShort, plannableIn}
 use Rattle.records.specs.declared.Refusal.{Refusal}
 use Rattle.planner.specs.declared.Answer.{Answer}
 use Rattle.planner.specs.declared.Answer.the-variants.{Planned, Refused}
@@ -32,15 +35,25 @@ unfolding plannedOf
 plan-is (Planned earned₀ number₀ cut₀) {earned} {number} {cut} says =
     let same : _≡_ {A = ℕ × ℕ × ℕ} (earned₀, number₀, cut₀) (earned, number, cut) = cc in
     rw (ap (λ (t : ℕ × ℕ × ℕ). t .0) same, ap (λ (t : ℕ × ℕ × ℕ). t .1) same, ap (λ (t : ℕ × ℕ × ℕ). t .2) same)
-plan-is (Refused refusal) says = let z : _≡_ {A = ℕ} 0 1 = cc in absurd (omega arith)
+plan-is (Refused refusal) says = absurd (refused-not-done says)
 
 pub is-plan : {book : Book} {r : BookPlan} (plan : PlanOf book r) → r .answer ≡ Planned (plan .earned) (plan .number) (plan .cut)
 is-plan {r} plan = plan-is (r .answer) (plan .says)
 
+-- and a plan at the numbers answered
+pub plan-answered :
+    {book : Book} {r : BookPlan} {earned number cut : ℕ} → PlanOf book r → r .answer ≡ Planned earned number cut → O.Planned book (at (r .entries)) earned number cut
+plan-answered {earned} {number} {cut} plan says =
+    let the-answer : Planned (plan .earned) (plan .number) (plan .cut) ≡ Planned earned number cut = sym (is-plan plan) ∙ says in
+    let e : plan .earned ≡ earned = cc in
+    let n : plan .number ≡ number = cc in
+    let c : plan .cut ≡ cut = cc in
+    rw (e, n, c) at (plan .planned)
+
 -- an answer that means a refusal is that refusal
 refusal-is : (answer : Answer) {n p : ℕ} → plannedOf answer ≡ refused n p → answer ≡ Refused (record { number = n; place = p })
 unfolding plannedOf
-refusal-is (Planned earned number cut) says = let z : _≡_ {A = ℕ} 0 1 = cc in absurd (omega arith)
+refusal-is (Planned earned number cut) says = absurd (refused-not-done (sym says))
 refusal-is (Refused refusal) {n} {p} says =
     let number : refusal .number ≡ n = cc in
     let place : refusal .place ≡ p = cc in
@@ -68,7 +81,7 @@ unfolding plannedOf
 is-refused {file} {entryPlaces} {pricePlaces} {refusal} planned says = go (plannableIn file entryPlaces pricePlaces) refl
   where
     go : (o : Outcome Book) → plannableIn file entryPlaces pricePlaces ≡ o → plannableIn file entryPlaces pricePlaces ≡ refused (refusal .number) (refusal .place)
-    go (done book) is = let z : _≡_ {A = ℕ} 0 1 = cc (planned .plan book is .says, says) in absurd (omega arith)
+    go (done book) is = absurd (refused-not-done (sym (ap plannedOf says) ∙ planned .plan book is .says))
     go (refused n p) is =
         let told : _≡_ {A = Outcome (ℕ × ℕ × ℕ)} (refused (refusal .number) (refusal .place)) (refused n p) = sym (ap plannedOf says) ∙ planned .refusal n p is .says in
         let number : n ≡ refusal .number = cc in
@@ -83,7 +96,44 @@ is-planned {file} {entryPlaces} {pricePlaces} planned says = go (plannableIn fil
   where
     go : (o : Outcome Book) → plannableIn file entryPlaces pricePlaces ≡ o → (book : Book) × (plannableIn file entryPlaces pricePlaces ≡ done book)
     go (done book) is = (book, is)
-    go (refused n p) is = let z : _≡_ {A = ℕ} 0 1 = cc (planned .refusal n p is .says, says) in absurd (omega arith)
+    go (refused n p) is = absurd (refused-not-done (sym (planned .refusal n p is .says) ∙ ap plannedOf says))
+
+-- ---- what comes before a plan: a book that can be planned is the one that was read, and the lists are not short for it
+
+pub plannable-read :
+    (file : List ℕ) (entryPlaces pricePlaces : ℕ) (book : Book) → plannableIn file entryPlaces pricePlaces ≡ done book
+    → (reading file ≡ done book) × (placesShort book entryPlaces pricePlaces ≡ false)
+unfolding plannableIn andThen
+plannable-read file entryPlaces pricePlaces book = by (reading file)
+  where
+    by :
+        (o : Outcome Book) → andThen o (λ made. cond (placesShort made entryPlaces pricePlaces) (refused 12 0) (done made)) ≡ done book
+        → (o ≡ done book) × (placesShort book entryPlaces pricePlaces ≡ false)
+    by (refused n p) same = absurd (refused-not-done same)
+    by (done made) same =
+        ⊎-elim (λ t. absurd (refused-not-done (rw t at same))) (λ t. long t (rw t at same)) (decided (placesShort made entryPlaces pricePlaces))
+      where
+        long : placesShort made entryPlaces pricePlaces ≡ false → done made ≡ done book → (done made ≡ done book) × (placesShort book entryPlaces pricePlaces ≡ false)
+        long t e = let same-book : made ≡ book = cc in (e, rw same-book at t)
+
+-- else it is the reading's refusal, or 12
+pub plannable-refused :
+    (file : List ℕ) (entryPlaces pricePlaces number place : ℕ) → plannableIn file entryPlaces pricePlaces ≡ refused number place
+    → (reading file ≡ refused number place) ⊎ ((number ≡ 12) × (place ≡ 0))
+unfolding plannableIn andThen
+plannable-refused file entryPlaces pricePlaces number place = by (reading file)
+  where
+    by :
+        (o : Outcome Book) → andThen o (λ made. cond (placesShort made entryPlaces pricePlaces) (refused 12 0) (done made)) ≡ refused number place
+        → (o ≡ refused number place) ⊎ ((number ≡ 12) × (place ≡ 0))
+    by (refused n p) same = inl same
+    by (done made) same =
+        ⊎-elim (λ t. inr (twelve (rw t at same))) (λ t. absurd (refused-not-done (sym (rw t at same)))) (decided (placesShort made entryPlaces pricePlaces))
+      where
+        twelve : _≡_ {A = Outcome Book} (refused 12 0) (refused number place) → (number ≡ 12) × (place ≡ 0)
+        twelve e = (cc, cc)
+
+-- ---- the columns
 
 pub plan-holds : {book : Book} {r : BookPlan} → PlanOf book r → Holds book (r .count) (book .limits) (r .a) (r .b) (table (count book) (profit book))
 unfolding limit

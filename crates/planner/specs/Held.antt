@@ -8,10 +8,10 @@ use Prim.Native.Nat.{ℕ}
 use native.Mathlib.Omega.{arith}
 use lib.Dec.{eqb, ltb}
 use lib.ListN.{replicate}
-use Rattle.sums.specs.Each.{decided}
+use Rattle.sums.specs.Each.{of-yes, decided}
 use Rattle.book.specs.Book.{Book, spans, spansOf, count}
 use Rattle.book.specs.Columns.{at}
-use Rattle.book.specs.Reading.{done, refused, andThen}
+use Rattle.book.specs.Reading.{done, refused, andThen, refused-not-done}
 use Rattle.rules.specs.Cuts.{cut, cutShown}
 use Rattle.rules.specs.Operations.{placesShort, plannableIn, Planned, Priced}
 use Rattle.lines.specs.Line.{Line}
@@ -170,10 +170,10 @@ short-is entryPlaces pricePlaces held s e = rw (held .shape-is, held .nodes-is, 
 
 -- 12, and a plan where it is not 12
 pub held-short : {book : Book} {entryPlaces pricePlaces : ℕ} {r : BookPlan} → placesShort book entryPlaces pricePlaces ≡ true → Refusing 12 0 r → HeldPlanned book entryPlaces pricePlaces r
-held-short t says = record { short = λ e. says; long = λ e. let z : _≡_ {A = ℕ} 0 1 = cc in absurd (omega arith) }
+held-short t says = record { short = λ e. says; long = λ e. absurd (of-yes (sym e ∙ t)) }
 
 pub held-long : {book : Book} {entryPlaces pricePlaces : ℕ} {r : BookPlan} → placesShort book entryPlaces pricePlaces ≡ false → PlanOf book r → HeldPlanned book entryPlaces pricePlaces r
-held-long t plan = record { short = λ e. let z : _≡_ {A = ℕ} 0 1 = cc in absurd (omega arith); long = λ e. plan }
+held-long t plan = record { short = λ e. absurd (of-yes (sym t ∙ e)); long = λ e. plan }
 
 -- ---- any file
 
@@ -183,14 +183,14 @@ refused-by :
 refused-by {number} {place} is says =
     record {
       refusal = λ n p e. let same-number : number ≡ n = cc in let same-place : place ≡ p = cc in rw (← same-number, ← same-place) says;
-      plan = λ book e. let z : _≡_ {A = ℕ} 0 1 = cc in absurd (omega arith);
+      plan = λ book e. absurd (refused-not-done (sym is ∙ e));
     }
 
 planned-by :
     {file : List ℕ} {entryPlaces pricePlaces : ℕ} {book : Book} {r : BookPlan} → plannableIn file entryPlaces pricePlaces ≡ done book → PlanOf book r → BookPlanned file entryPlaces pricePlaces r
 planned-by {book} {r} is plan =
     record {
-      refusal = λ n p e. let z : _≡_ {A = ℕ} 0 1 = cc in absurd (omega arith);
+      refusal = λ n p e. absurd (refused-not-done (sym e ∙ is));
       plan = λ other e. let same : book ≡ other = cc in rw same at plan;
     }
 

@@ -25,6 +25,8 @@ use Rattle.records.specs.Parts.{records-part}
 use Rattle.records.specs.Records.{answer, networkIn, networkRow, networkRecordAt, spanRecordAt, requestRecordAt, answer-refused, answer-got}
 use Rattle.records.specs.Rows.{network-row, span-row, request-row}
 use Rattle.reader.specs.Series.{AllGot, Stopped, isGot}
+use Rattle.reader.specs.Spans.{spanSeries}
+use Rattle.reader.specs.Orders.{requestSeries}
 
 -- ---- one record
 
@@ -103,14 +105,14 @@ headed f got e =
 -- ---- the spans
 
 abbrev pub spanSays : List ℕ → ℕ → Reading
-spanSays f s = spanRecordAt f (1 + s) (channelsIn f)
+spanSays f = spanSeries f (channelsIn f) .says
 
 -- the part of the file that follows the span records
 abbrev pub afterSpans : List ℕ → List ℕ
 afterSpans f = drop (start (1 + spansIn f)) f
 
 abbrev pub requestSays : List ℕ → ℕ → Reading
-requestSays f i = requestRecordAt (afterSpans f) i (1 + spansIn f) (nodesIn f)
+requestSays f = requestSeries (afterSpans f) (1 + spansIn f) (nodesIn f) .says
 
 module _ (f : List ℕ) (h : Headed f) where
   spans-clean : (n : ℕ) → n ≤ spansIn f → AllGot (spanSays f) n → Clean f (1 + n)

@@ -5,14 +5,13 @@ use mathlib.Core.Bool.{Bool, true, false}
 use mathlib.Core.List.{List}
 use mathlib.Core.Logic.{⊎-elim}
 use Prim.Native.Nat.{ℕ, _≤_, _<_}
-use native.Mathlib.Omega.{arith}
 use borrow.Author.Tests.{eq-eqb, ltb-false, le-ltb}
 use lib.Dec.{ltb}
-use Rattle.sums.specs.Each.{both, of-yes, decided, less-or-not}
+use Rattle.sums.specs.Each.{both, decided, less-or-not}
 use Rattle.sums.specs.Tests.{neither}
 use Rattle.book.specs.Bytes.{entryPlaces, pricePlaces, entryIn, priceIn}
 use Rattle.book.specs.Book.{Book, spans, count}
-use Rattle.book.specs.Reading.{Outcome, done, refused, reading}
+use Rattle.book.specs.Reading.{Outcome, done, refused, reading, refused-not-done}
 use Rattle.book.specs.Sound.{sound}
 use Rattle.rules.specs.Plans.{Best, earnings, obeys}
 use Rattle.rules.specs.Prices.{verdict, ceiling}
@@ -20,8 +19,8 @@ use Rattle.rules.specs.Operations.{tooShort, tooDear, checking, checker}
 use Rattle.lines.specs.Line.{Line}
 use Rattle.lines.specs.Ceiling.{yes-obeys, yes-earns, yes-best, yes-for-best, no-for-others}
 use Rattle.verdict.specs.declared.Checked.{Checked}
-use Rattle.verdict.specs.declared.Checked.the-variants.{Yes, No, Refused}
-use Rattle.verdict.specs.Checked.{checkedOf}
+use Rattle.verdict.specs.declared.Checked.the-variants.{Yes, No}
+use Rattle.verdict.specs.Checked.{checkedOf, same-checked}
 use Rattle.verdict.specs.WaysOut as W
 
 -- what `check_plan` promises of its answer
@@ -50,9 +49,6 @@ module _ {file entries prices : List ℕ} (j : Judged file entries prices) where
   is-verdict =
       W.book-accepted file entries prices (j .read)
       (W.verdict-given on-line entries prices long (W.none-dear (j .book) prices (j .price-upto)))
-
-refused-not-done : {A : Type 0} {n p : ℕ} {x : A} → refused n p ≡ done x → ⊥
-refused-not-done e = let z : _≡_ {A = ℕ} 0 1 = cc in omega arith
 
 -- where the checker says yes or no, there is something to judge: every other way out is a refusal
 module _ (file entries prices : List ℕ) {t : Bool} (said : checker file entries prices ≡ done t) where
@@ -91,18 +87,6 @@ module _ (file entries prices : List ℕ) {t : Bool} (said : checker file entrie
 
 -- ---- the answer
 
-yes-of : (answer : Checked) → checkedOf answer ≡ done true → answer ≡ Yes
-unfolding checkedOf
-yes-of Yes e = refl
-yes-of No e = let z : false ≡ true = cc in absurd (of-yes z)
-yes-of (Refused r) e = absurd (refused-not-done e)
-
-no-of : (answer : Checked) → checkedOf answer ≡ done false → answer ≡ No
-unfolding checkedOf
-no-of Yes e = let z : false ≡ true = cc in absurd (of-yes z)
-no-of No e = refl
-no-of (Refused r) e = absurd (refused-not-done e)
-
 module _ {file entries prices : List ℕ} {answer : Checked} (j : Judged file entries prices) (answered : Answered file entries prices answer) where
   answer-is : checkedOf answer ≡ done (verdict (j .book) (entryIn entries) (priceIn prices))
   answer-is = answered .says ∙ sym (is-verdict j)
@@ -116,12 +100,13 @@ module _ {file entries prices : List ℕ} {answer : Checked} (j : Judged file en
   yes-means e = let v = yes-verdict e in (yes-obeys (on-line j) _ _ v, yes-earns (on-line j) _ _ v)
 
   pub yes-given : obeys (j .book) (entryIn entries) ≡ true → earnings (j .book) (entryIn entries) ≡ ceiling (j .book) (priceIn prices) → answer ≡ Yes
-  unfolding verdict
-  yes-given o e = yes-of answer (answer-is ∙ ap done (both _ _ o (eq-eqb _ _ e)))
+  unfolding verdict checkedOf
+  yes-given o e = same-checked answer Yes (answer-is ∙ ap done (both _ _ o (eq-eqb _ _ e)))
 
   pub no-given : (answer ≡ Yes → ⊥) → answer ≡ No
+  unfolding checkedOf
   no-given n =
-      ⊎-elim (λ e. absurd (n (yes-of answer (answer-is ∙ ap done e)))) (λ e. no-of answer (answer-is ∙ ap done e))
+      ⊎-elim (λ e. absurd (n (same-checked answer Yes (answer-is ∙ ap done e)))) (λ e. same-checked answer No (answer-is ∙ ap done e))
       (decided (verdict (j .book) (entryIn entries) (priceIn prices)))
 
 -- At prices where any plan gets a yes, every best plan gets a yes and no other plan does.
@@ -129,7 +114,7 @@ module _ {file entries prices : List ℕ} {answer : Checked} (j : Judged file en
   pub best-gets-yes : {accepted : List ℕ} → Answered file accepted prices Yes → Best (j .book) (entryIn entries) → answer ≡ Yes
   unfolding checkedOf
   best-gets-yes {accepted} other b =
-      yes-of answer (answer-is j answered ∙ ap done (yes-for-best (on-line j) (entryIn accepted) (entryIn entries) (priceIn prices) there b))
+      same-checked answer Yes (answer-is j answered ∙ ap done (yes-for-best (on-line j) (entryIn accepted) (entryIn entries) (priceIn prices) there b))
     where
       was : Judged file accepted prices
       was = judged-there file accepted prices (sym (other .says))
@@ -141,7 +126,8 @@ module _ {file entries prices : List ℕ} {answer : Checked} (j : Judged file en
       there = rw same at (yes-verdict was other refl)
 
   pub others-get-no : (Best (j .book) (entryIn entries) → ⊥) → answer ≡ No
-  others-get-no n = no-of answer (answer-is j answered ∙ ap done (no-for-others (on-line j) (entryIn entries) (priceIn prices) n))
+  unfolding checkedOf
+  others-get-no n = same-checked answer No (answer-is j answered ∙ ap done (no-for-others (on-line j) (entryIn entries) (priceIn prices) n))
 
 -- "A yes means that no plan obeying the rules earns more": the book is then an accepted line, and the plan in the entry list is best.
 pub yes-means-best : {file entries prices : List ℕ} → Answered file entries prices Yes → (j : Judged file entries prices) × Best (j .book) (entryIn entries)
