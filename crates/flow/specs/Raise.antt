@@ -6,7 +6,7 @@ use mathlib.Core.Logic.{⊎-elim}
 use Prim.Native.Nat.{ℕ, suc, _+_, _-_, _≤_, _<_}
 use native.Mathlib.Nat.{eq-zero-or-pos}
 use native.Mathlib.Omega.{arith}
-use Rattle.row.specs.Row.{Row}
+use Rattle.row.specs.Meets.{first-in}
 use Rattle.flow.specs.Balanced.{Proper, Deep}
 use Rattle.flow.specs.Searching.{Ground, Came, Spread, Searching}
 use Rattle.flow.specs.Walking.{Open}
@@ -20,9 +20,6 @@ unfolding raised
 raised-upto {v} d deepest l h = omega (arith, deepest v h)
 
 -- ---- the depths and the arcs after a search
-
-first-in : {row : Row} {t : ℕ} → Proper row t → (i : ℕ) → i < t → row .lo i ≤ row .cells
-first-in p i l = omega (arith, p .some-cell i l, p .in-row i l)
 
 pub raised-deep : {g : Ground} {b most D clock : ℕ} {d rank by from : ℕ → ℕ} → Deep (g .row) (g .t) (g .x) (g .s) (g .N) → Proper (g .row) (g .t) →
     Searching g b most d rank by from clock → ((w : ℕ) → w ≤ g .row .cells → rank w ≡ 0 → D ≤ d w) → Deep (g .row) (g .t) (g .x) (g .s) (raised D (g .N) d)

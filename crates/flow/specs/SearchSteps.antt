@@ -6,6 +6,7 @@ use mathlib.Core.Path.{_≡_, refl, sym, ap, subst}
 use Prim.Native.Nat.{ℕ, zero, suc, _+_, _≤_, _<_}
 use native.Mathlib.Omega.{arith}
 use Rattle.sums.specs.Each.{less-or-not, same-or-not}
+use Rattle.row.specs.Meets.{first-in}
 use Rattle.flow.specs.Balanced.{Proper, Deep}
 use Rattle.flow.specs.Searching.{Ground, Came, up, down, along, back, Spread, Labels, Searching, Spreading}
 
@@ -108,7 +109,7 @@ spread-falls {g} {u = u} proper falls same s = record {
   up = λ l. omega (arith, s .up l, falls (suc u) l);
   down = λ v q l room. omega (arith, s .down v q l room, falls v (omega arith));
   along = λ i m l out q. omega (arith, s .along i m l out q, falls (g .row .hi i) (proper .in-row i l));
-  back = λ i m l kept q. omega (arith, s .back i m l kept q, falls (g .row .lo i) (omega (arith, proper .some-cell i l, proper .in-row i l)));
+  back = λ i m l kept q. omega (arith, s .back i m l kept q, falls (g .row .lo i) (first-in proper i l));
 }
 
 -- where one label is lowered and the others stay, none rises

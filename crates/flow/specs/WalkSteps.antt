@@ -11,6 +11,7 @@ use Rattle.sums.specs.Between.{between, below, between-below, between-round, be
 use Rattle.sums.specs.Each.{decided, same-or-not, of-yes}
 use Rattle.sums.specs.Sums.{Σ, bit, Σ-ext}
 use Rattle.row.specs.Row.{Row, covers}
+use Rattle.row.specs.Meets.{first-in}
 use Rattle.flow.specs.Balanced.{Proper, loadTo, Deep, Balanced}
 use Rattle.flow.specs.Walking.{Open, up, down, along, back, Walking}
 
@@ -285,7 +286,7 @@ pub walk-start :
     → ((w : ℕ) → w ≤ row .cells → 0 < rank w → rank w ≤ rank a → (w ≡ b → ⊥) → rank (from w) < rank w)
     → Walking row (suc t₀) x s N b rank by from a
 walk-start {row} {t₀} {x₀} {x} {s} {a} {b} balanced deep same on proper lo hi ranked trail from-in from-ranked falls = record {
-  node = omega (arith, proper .some-cell t₀ (omega arith), proper .in-row t₀ (omega arith));
+  node = omega (arith, first-in proper t₀ (omega arith));
   ranked = ranked;
   room = room;
   deep = deep;

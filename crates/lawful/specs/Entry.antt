@@ -1,6 +1,6 @@
 -- One entry against its request's two ends, by numbers alone (01, "Routes and a plan that obeys the rules"), and the whole plan laid out in columns,
 -- a place a request and a turn of the loop a place. Assumes nothing.
-use mathlib.Core.Bool.{Bool, true, false, _&&_, _||_, cond}
+use mathlib.Core.Bool.{Bool, true, false, _&&_, _||_}
 use mathlib.Core.List.{List}
 use mathlib.Core.Path.{_≡_, sym}
 use Prim.Native.Nat.{ℕ, _+_, _/_, _%_, _<_, min, max}
@@ -16,15 +16,12 @@ use Rattle.sums.specs.Turns.{each-fails}
 use Rattle.sums.specs.Filled.{Filled, filled-none, filled-more}
 use Rattle.book.specs.Bytes.{entryIn}
 use Rattle.book.specs.Columns.{at}
+use Rattle.rules.specs.Ways.{wayFrom}
 use Rattle.rules.specs.Plans.{Plan, kept, channel}
-
--- the way that exists from a to b
-unfoldable pub wayAt : ℕ → ℕ → ℕ
-wayAt a b = cond (ltb a b) 1 2
 
 -- the entry is 0, or it has the way that exists from a to b and a channel from 1 to k
 unfoldable pub formedAt : ℕ → ℕ → ℕ → ℕ → Bool
-formedAt k a b entry = eqb entry 0 || (eqb (entry / 256) (wayAt a b) && (ltb 0 (entry % 256) && leb (entry % 256) k))
+formedAt k a b entry = eqb entry 0 || (eqb (entry / 256) (wayFrom a b) && (ltb 0 (entry % 256) && leb (entry % 256) k))
 
 -- entry i of a list against request i
 abbrev pub formedIn : ℕ → List ℕ → List ℕ → List ℕ → ℕ → Bool

@@ -8,23 +8,24 @@ use Prim.Native.Nat.{ℕ, _/_, _≤_, _<_, min, max}
 use native.Mathlib.Omega.{arith}
 use borrow.Author.Tests.{eqb-true}
 use lib.Dec.{leb, ltb, eqb}
-use Rattle.sums.specs.Each.{each, each-at, each-of, left-of, decided, of-yes}
-use Rattle.sums.specs.Sums.{when, bit, when-le, when-no, Σ-ext}
+use Rattle.sums.specs.Each.{each, each-at, each-of, decided, of-yes}
+use Rattle.sums.specs.Sums.{bit, when-le, when-upto, when-no, Σ-ext}
 use Rattle.sums.specs.Tests.{implied}
 use Rattle.book.specs.Bytes.{entryIn}
 use Rattle.book.specs.Book as Books
 use Rattle.book.specs.Book.{Book, limit, endA, endB}
 use Rattle.book.specs.Columns.{at}
-use Rattle.rules.specs.Ways.{lineWay}
+use Rattle.rules.specs.Ways.{wayFrom, lineWay}
 use Rattle.rules.specs.Plans as Plans
 use Rattle.rules.specs.Plans.{Plan, kept, way, channel, formed, obeys}
 use Rattle.row.specs.Row.{covers}
 use Rattle.lines.specs.Line.{Line}
 use Rattle.lines.specs.RowOf.{rowOf}
 use Rattle.lines.specs.Ways.{line-way}
+use Rattle.lines.specs.Obeys.{formed-has}
 use Rattle.lines.specs.Laid.{Laid, over-covers}
 use Rattle.lawful.specs.Drawn.{Drawn, EndsBelow}
-use Rattle.lawful.specs.Entry.{wayAt, formedAt, formedIn, PlanLaidOut}
+use Rattle.lawful.specs.Entry.{formedAt, formedIn, PlanLaidOut}
 use Rattle.lawful.specs.Spans.{over, over-late, FairOn, FairSpans, CanSweep, Decides}
 use Rattle.lawful.specs.SpanBySpan.{formedOr, obeys-formed, obeys-on, on-obeys}
 
@@ -59,22 +60,17 @@ can-sweep {a = a} {b} {plan = plan} few ends laid-out = record {
   real = laid-out .crossing-is;
   below = λ i l. omega (arith, laid-out .channel-is .is i l);
 }
-  where
-    when-upto : (t : Bool) (x y : ℕ) → x ≤ y → when t x ≤ when t y
-    when-upto true x y h = h
-    when-upto false x y h = omega arith
 
 module _ {book : Book} (on : Line book) (plan : Plan) where
   -- the entry by its numbers
   formed-at : (i : ℕ) → i < Books.count book → formedOr book plan i ≡ formedAt (book .channels) (endA book i) (endB book i) (plan i)
-  unfolding formedAt formed wayAt lineWay kept way channel
+  unfolding formedAt formed wayFrom lineWay kept way channel
   formed-at i l = rw (Bool·not-not (eqb (plan i) 0), line-way on i (plan i / 256) l)
 
   -- where every request is formed, the kept ones go the way that exists
   formed-laid : ((i : ℕ) → i < Books.count book → formedOr book plan i ≡ true) → Laid book plan
-  unfolding formed
   formed-laid form = record {
-    goes = λ i l k. eqb-true _ _ (sym (line-way on i (way plan i) l) ∙ left-of _ _ (implied (kept plan i) _ (form i l) k));
+    goes = λ i l k. eqb-true _ _ (sym (line-way on i (way plan i) l) ∙ formed-has book plan i (implied (kept plan i) _ (form i l) k) .0);
   }
 
 module _

@@ -1,18 +1,15 @@
 -- A plan whose kept requests are formed obeys the rules exactly when, on every span, no two kept requests that cross it have the same channel and
 -- they are at most its limit: two kept requests share a span where there is one that both cross. For lines and rings. Assumes nothing.
 use mathlib.Core.Path.{_≡_, sym}
-use mathlib.Core.Bool.{Bool, true, not, _&&_, _||_}
+use mathlib.Core.Bool.{Bool, true, not, _||_}
 use mathlib.Core.Logic.{⊎-elim}
 use Prim.Native.Nat.{ℕ, _<_}
 use native.Mathlib.Omega.{arith}
-use borrow.Author.Tests.{ltb-true, leb-true}
-use lib.Dec.{leb, ltb}
-use Rattle.sums.specs.Each.{each-at, left-of, right-of, less-or-not}
+use Rattle.sums.specs.Each.{each-at, less-or-not}
 use Rattle.sums.specs.Tests.{implied, all-three}
 use Rattle.book.specs.Book.{Book, spans, limit, count}
-use Rattle.rules.specs.Ways.{wayExists}
-use Rattle.rules.specs.Plans.{Plan, kept, way, channel, over, load, formed, obeys}
-use Rattle.lines.specs.Obeys.{obeys-fair, fair-obeys}
+use Rattle.rules.specs.Plans.{Plan, kept, channel, over, load, formed, obeys}
+use Rattle.lines.specs.Obeys.{formed-has, obeys-fair, fair-obeys}
 use Rattle.lawful.specs.Spans.{FairOn}
 
 module _ (book : Book) (plan : Plan) where
@@ -36,20 +33,17 @@ module _ (book : Book) (plan : Plan) where
   pub on-obeys :
       ((i : ℕ) → i < count book → formedOr i ≡ true) → ((s : ℕ) → s < spans book → FairOn (count book) (λ i. over book plan i s) (channel plan) (limit book s))
       → obeys book plan ≡ true
-  unfolding load formed
+  unfolding load
   on-obeys form on = fair-obeys book plan (record {
-    way-exists = λ i l k. left-of _ _ (here i l k);
-    channel-from = λ i l k. ltb-true _ _ (left-of _ _ (numbered i l k));
-    channel-upto = λ i l k. leb-true _ _ (right-of (ltb 0 (channel plan i)) _ (numbered i l k));
+    way-exists = λ i l k. formed-has book plan i (here i l k) .0;
+    channel-from = λ i l k. formed-has book plan i (here i l k) .1;
+    channel-upto = λ i l k. formed-has book plan i (here i l k) .2;
     channels-differ = apart;
     within-limits = λ s l. on s l .within;
   })
     where
       here : (i : ℕ) → i < count book → kept plan i ≡ true → formed book plan i ≡ true
       here i l k = implied (kept plan i) _ (form i l) k
-
-      numbered : (i : ℕ) → i < count book → kept plan i ≡ true → (ltb 0 (channel plan i) && leb (channel plan i) (book .channels)) ≡ true
-      numbered i l k = right-of (wayExists book i (way plan i)) _ (here i l k)
 
       apart :
           (i j s : ℕ) → i < count book → j < count book → s < spans book → over book plan i s ≡ true → over book plan j s ≡ true

@@ -8,9 +8,10 @@ ghost use lib.Dec.{eqb};
 ghost use Rattle.sums.specs.Sums.{when};
 ghost use Rattle.book.specs.Book.{Book};
 ghost use Rattle.book.specs.Bytes.{entryIn};
+ghost use Rattle.rules.specs.Ways.{wayFrom};
 ghost use Rattle.rules.specs.Plans.{obeys};
 ghost use Rattle.lawful.specs.Drawn.{Drawn, EndsBelow};
-ghost use Rattle.lawful.specs.Entry.{wayAt, formedAt, LayingPlan, Lays};
+ghost use Rattle.lawful.specs.Entry.{formedAt, LayingPlan, Lays};
 
 mod ends;
 mod sweep;
@@ -25,7 +26,7 @@ pub fn entry_at(entries: &[u8], i: usize) -> usize
 
 // The way that exists from a to b.
 fn way_of(a: usize, b: usize) -> usize
-    ensures { λ r. ⌜ r ≡ wayAt a b ⌝ }
+    ensures { λ r. ⌜ r ≡ wayFrom a b ⌝ }
 {
     if a < b {
         return 1;

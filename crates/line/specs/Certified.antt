@@ -1,17 +1,16 @@
 -- What the row planner leaves is, on a line, a kept set within the limits that earns the ceiling of its prices: the state of the flow is the
 -- certificate of the row, and prices cut down to 1,000,000, which no profit exceeds, still certify. So the set earns the best. Assumes nothing.
-use mathlib.Core.Path.{_≡_, sym, ap, _∙_}
-use mathlib.Core.Bool.{Bool, true, _&&_}
+use mathlib.Core.Path.{_≡_, sym, _∙_}
+use mathlib.Core.Bool.{Bool, true}
 use Prim.Native.Nat.{ℕ, _≤_, _<_}
 use native.Mathlib.Omega.{arith}
 use borrow.Author.Tests.{eq-eqb}
 use Rattle.sums.specs.Each.{both}
-use Rattle.sums.specs.Sums.{bit, Σ-ext}
 use Rattle.book.specs.Book.{Book, limit, count}
 use Rattle.rules.specs.Plans.{Plan, kept, obeys}
 use Rattle.rules.specs.Prices.{Prices, verdict}
 use Rattle.rules.specs.Best.{best}
-use Rattle.row.specs.Row.{Row, load, worth, WithinLimits, Tight}
+use Rattle.row.specs.Row.{Row, worth, WithinLimits, Tight}
 use Rattle.row.specs.Duality.{tight}
 use Rattle.row.specs.Answers.{none-worth-more}
 use Rattle.row.specs.Clamp.{clamp, clamped}
@@ -20,10 +19,10 @@ use Rattle.flow.specs.Balanced.{Proper, Balanced, priceAt}
 use Rattle.flow.specs.Certificate.{balanced-within, balanced-tight}
 use Rattle.lines.specs.RowOf.{rowOf}
 use Rattle.lines.specs.Line.{Line}
-use Rattle.lines.specs.Ways.{proper, crossed-covers}
+use Rattle.lines.specs.Ways.{proper}
 use Rattle.lines.specs.Obeys.{obeys-fair}
-use Rattle.lines.specs.Laid.{obeys-laid, earnings-worth, within-row}
-use Rattle.lines.specs.Sets.{crossing, set-bounded}
+use Rattle.lines.specs.Laid.{obeys-laid, earnings-worth, crossing-row, within-row}
+use Rattle.lines.specs.Sets.{set-bounded}
 use Rattle.lines.specs.Ceiling.{ceiling-row}
 use Rattle.lines.specs.Best.{attained}
 
@@ -64,7 +63,7 @@ module _ {book : Book} (on : Line book) where
 
   -- a best plan's set is within the limits, and this one is among those that `best` tries
   pub earns-best : {x : ℕ → Bool} {y : Prices} → Certified book x y → worth (rowOf book) x ≡ best book
-  unfolding rowOf load worth best
+  unfolding rowOf worth best
   earns-best {x} {y} c =
       let (plan, fair, rule, earns) = attained on in
       let within = within-row on (obeys-laid on fair) (obeys-fair book plan fair .within-limits) in
@@ -73,8 +72,5 @@ module _ {book : Book} (on : Line book) where
         earns,
         earnings-worth book plan,
         none-worth-more (rowOf book) x (kept plan) y (c .certificate) within,
-        set-bounded book (count book) (limit book) x (λ s l. omega (arith, crossed-load s, c .within .holds s l)),
+        set-bounded book (count book) (limit book) x (λ s l. omega (arith, crossing-row on x s, c .within .holds s l)),
       )
-    where
-      crossed-load : (s : ℕ) → crossing book (count book) x s ≡ load (rowOf book) x s
-      crossed-load s = Σ-ext (count book) _ _ (λ i l. ap (λ (t : Bool). bit (x i && t)) (crossed-covers on i s l))

@@ -8,6 +8,7 @@ use borrow.Author.Tests.{lt-ltb, le-ltb}
 use lib.ListN.{length, set, length-set}
 use Rattle.sums.specs.Filled.{filled-none, filled-more}
 use Rattle.book.specs.Columns.{at}
+use Rattle.rules.specs.Ways.{wayFrom}
 use Rattle.lines.specs.Entries.{entered}
 use Rattle.planrow.specs.State.{flag}
 use Rattle.line.specs.Steps.{wayIn, entries-of, Entered}
@@ -29,9 +30,9 @@ module _ {n : ℕ} {a b : List ℕ} {kept : List Bool} {channel entries : List �
   entering-left e = next (rw e)
 
   pub entering-up : flag kept n ≡ true → at a n < at b n → Entering (n + 1) a b kept channel (set entries n (256 + at channel n))
-  unfolding entered wayIn
+  unfolding entered wayIn wayFrom
   entering-up e h = next (rw (e, lt-ltb _ _ h) (omega arith))
 
   pub entering-down : flag kept n ≡ true → at b n ≤ at a n → Entering (n + 1) a b kept channel (set entries n (512 + at channel n))
-  unfolding entered wayIn
+  unfolding entered wayIn wayFrom
   entering-down e h = next (rw (e, le-ltb _ _ h) (omega arith))

@@ -1,11 +1,11 @@
 -- What the functions of this crate promise each other: the entries, and the sums over what is kept. Assumes nothing.
-use mathlib.Core.Bool.{Bool, cond}
+use mathlib.Core.Bool.{Bool}
 use mathlib.Core.List.{List}
 use Prim.Native.Nat.{ℕ, _≤_, _<_}
-use lib.Dec.{ltb}
 use Rattle.sums.specs.Sums.{Σ, when, bit}
 use Rattle.sums.specs.Filled.{Filled}
 use Rattle.book.specs.Columns.{at}
+use Rattle.rules.specs.Ways.{wayFrom}
 use Rattle.lines.specs.Entries.{entered}
 use Rattle.planrow.specs.State.{flag}
 
@@ -21,9 +21,9 @@ pub record Channels (count : ℕ) (channel : List ℕ) : Type 0 where
   pub few : count ≤ 256
   pub upto : (i : ℕ) → i < count → at channel i ≤ 96
 
--- the way from a to b: 1 goes up, 2 down
+-- the way of request i, from a to b
 unfoldable pub wayIn : List ℕ → List ℕ → ℕ → ℕ
-wayIn a b i = cond (ltb (at a i) (at b i)) 1 2
+wayIn a b i = wayFrom (at a i) (at b i)
 
 -- the entry of each request: 0 where it is not kept, else way times 256 plus channel
 abbrev pub entries-of : List ℕ → List ℕ → List Bool → List ℕ → ℕ → ℕ

@@ -1,41 +1,33 @@
 -- Entries as they are written, read again as a plan of the line: it keeps what was kept, on the way that exists, with the channels that were given.
 -- Assumes nothing.
 use mathlib.Core.Path.{_≡_, sym, ap, ap₂, _∙_}
-use mathlib.Core.Bool.{Bool, true, false, not, cond}
+use mathlib.Core.Bool.{Bool, true, not}
 use mathlib.Core.List.{List}
-use Prim.Native.Nat.{ℕ, _/_, _%_, _≤_, _<_}
+use Prim.Native.Nat.{ℕ, _/_, _%_, _<_}
 use native.Mathlib.Omega.{arith}
-use lib.Dec.{ltb, eqb}
+use lib.Dec.{eqb}
 use Rattle.sums.specs.Sums.{when, bit, Σ-ext}
 use Rattle.book.specs.Book.{Book}
 use Rattle.book.specs.Columns.{at, Holds}
-use Rattle.rules.specs.Ways.{lineWay}
+use Rattle.rules.specs.Ways.{wayFrom, lineWay}
 use Rattle.rules.specs.Plans.{kept, way, channel, earnings, numberKept}
+use Rattle.lines.specs.Ways.{way-from}
 use Rattle.lines.specs.Laid.{Laid}
 use Rattle.lines.specs.Entries.{kept-entered, way-entered, channel-entered}
 use Rattle.planrow.specs.State.{flag}
 use Rattle.line.specs.Steps.{Channels, wayIn, Entered, sumOf, numberOf}
-
--- a way is never 0, so the entry of a kept request is not
-way-from : (a b : List ℕ) (i : ℕ) → 1 ≤ wayIn a b i
-unfolding wayIn
-way-from a b i = least (ltb (at a i) (at b i))
-  where
-    least : (t : Bool) → 1 ≤ cond {A = ℕ} t 1 2
-    least true = omega arith
-    least false = omega arith
 
 module _
     {book : Book} {count : ℕ} {limits a b profits : List ℕ} {keeps : List Bool} {channels entries : List ℕ}
     (holds : Holds book count limits a b profits) (small : Channels count channels) (written : Entered count a b keeps channels entries)
   where
     pub keeps-are : (i : ℕ) → i < count → flag keeps i ≡ kept (at entries) i
-    unfolding kept
-    keeps-are i l = sym (ap (λ (n : ℕ). not (eqb n 0)) (written .entry .is i l) ∙ kept-entered (flag keeps) (wayIn a b) (at channels) i (way-from a b i))
+    unfolding kept wayIn
+    keeps-are i l = sym (ap (λ (n : ℕ). not (eqb n 0)) (written .entry .is i l) ∙ kept-entered (flag keeps) (wayIn a b) (at channels) i (way-from (at a i) (at b i)))
 
     way-is : (i : ℕ) → i < count → wayIn a b i ≡ lineWay book i
     unfolding wayIn lineWay
-    way-is i l = ap₂ (λ (u v : ℕ). cond (ltb u v) 1 2) (holds .a-is i l) (holds .b-is i l)
+    way-is i l = ap₂ wayFrom (holds .a-is i l) (holds .b-is i l)
 
     pub goes-its-way : Laid book (at entries)
     unfolding way

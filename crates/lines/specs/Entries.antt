@@ -26,6 +26,11 @@ module _ (x : ℕ → Bool) (ways channels : ℕ → ℕ) (i : ℕ) where
   unfolding channel entered
   channel-entered e l = rw e (omega arith)
 
+-- an entry that is not kept is 0
+pub not-kept-zero : (plan : Plan) (i : ℕ) → kept plan i ≡ false → plan i ≡ 0
+unfolding kept
+not-kept-zero plan i e = eqb-true (plan i) 0 (not-false _ e)
+
 -- an entry is known by whether it is kept, its way and its channel
 pub same-entry :
     (plan other : Plan) (i : ℕ)
@@ -33,7 +38,4 @@ pub same-entry :
     → plan i ≡ other i
 unfolding kept way channel
 same-entry plan other i same ways channels =
-    ⊎-elim (λ k. omega (arith, ways k, channels k)) (λ k. zero plan k ∙ sym (zero other (sym same ∙ k))) (decided (kept plan i))
-  where
-    zero : (p : Plan) → kept p i ≡ false → p i ≡ 0
-    zero p e = eqb-true (p i) 0 (not-false _ e)
+    ⊎-elim (λ k. omega (arith, ways k, channels k)) (λ k. not-kept-zero plan i k ∙ sym (not-kept-zero other i (sym same ∙ k))) (decided (kept plan i))

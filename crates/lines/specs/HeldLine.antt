@@ -1,11 +1,12 @@
 -- The columns hold an accepted line's book. Such columns keep every number within the bounds of 01. Assumes nothing.
 use mathlib.Core.Path.{_≡_}
 use mathlib.Core.List.{List}
-use Prim.Native.Nat.{ℕ, _≤_, _<_}
+use Prim.Native.Nat.{ℕ, _-_, _≤_, _<_}
 use native.Mathlib.Omega.{arith}
 use Rattle.book.specs.Book as Books
 use Rattle.book.specs.Book.{Book}
-use Rattle.book.specs.Columns.{at, Holds}
+use Rattle.book.specs.Columns as Columns
+use Rattle.book.specs.Columns.{at, Holds, a-node, b-node, profit-upto}
 use Rattle.lines.specs.Line.{Line}
 use Rattle.lines.specs.Ways.{line-spans}
 
@@ -14,25 +15,31 @@ pub record HeldLine (book : Book) (spans count : ℕ) (limits a b profits : List
   pub spans-is : spans ≡ Books.spans book
   pub holds : Holds book count limits a b profits
 
+-- a line has a span less than nodes
+pub line-held :
+    {book : Book} {nodes count : ℕ} {limits a b profits : List ℕ} → Line book → nodes ≡ book .nodes → Holds book count limits a b profits
+    → HeldLine book (nodes - 1) count limits a b profits
+line-held on nodes-is holds = record { line = on; spans-is = omega (arith, nodes-is, line-spans on); holds = holds }
+
 module _ {book : Book} {spans count : ℕ} {limits a b profits : List ℕ} (h : HeldLine book spans count limits a b profits) where
   pub few-spans : spans ≤ 63
   few-spans = omega (arith, h .spans-is, line-spans (h .line), h .line .sound .nodes-upto)
 
   pub few : count ≤ 256
-  few = omega (arith, h .holds .counted, h .line .sound .count-upto)
+  few = Columns.few (h .line .sound) (h .holds)
 
   -- both ends are nodes, and the spans lie between nodes 0 and `spans`
   pub a-in : (i : ℕ) → i < count → at a i ≤ spans
-  a-in i l = omega (arith, h .holds .a-is i l, h .line .sound .a-node i (omega (arith, h .holds .counted)), h .spans-is, line-spans (h .line))
+  a-in i l = omega (arith, a-node (h .line .sound) (h .holds) i l, h .spans-is, line-spans (h .line))
 
   pub b-in : (i : ℕ) → i < count → at b i ≤ spans
-  b-in i l = omega (arith, h .holds .b-is i l, h .line .sound .b-node i (omega (arith, h .holds .counted)), h .spans-is, line-spans (h .line))
+  b-in i l = omega (arith, b-node (h .line .sound) (h .holds) i l, h .spans-is, line-spans (h .line))
 
   pub ends-differ : (i : ℕ) → i < count → at a i ≡ at b i → ⊥
-  ends-differ i l e = h .line .sound .ends-differ i (omega (arith, h .holds .counted)) (omega (arith, e, h .holds .a-is i l, h .holds .b-is i l))
+  ends-differ = Columns.ends-differ (h .line .sound) (h .holds)
 
   pub profit-in : (i : ℕ) → i < count → at profits i ≤ 1000000
-  profit-in i l = omega (arith, h .holds .profit-is i l, h .line .sound .profit-upto i (omega (arith, h .holds .counted)))
+  profit-in = profit-upto (h .line .sound) (h .holds)
 
   pub limit-in : (s : ℕ) → s < spans → at limits s ≤ 96
   limit-in s l =

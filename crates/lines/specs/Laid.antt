@@ -5,7 +5,7 @@ use mathlib.Core.Bool.{Bool, true, false, _&&_}
 use Prim.Native.Nat.{ℕ, _≤_, _<_}
 use borrow.Author.Tests.{eqb-true, eq-eqb}
 use Rattle.sums.specs.Each.{each-at, each-of, some-ext}
-use Rattle.sums.specs.Sums.{Σ, bit, Σ-ext}
+use Rattle.sums.specs.Sums.{bit, Σ-ext}
 use Rattle.sums.specs.Lowest.{lowestFree, lowest-ext}
 use Rattle.book.specs.Book.{Book, spans, limit, count}
 use Rattle.rules.specs.Ways.{lineWay, crossed}
@@ -19,6 +19,7 @@ use Rattle.lines.specs.Line.{Line}
 use Rattle.sums.specs.Tests.{implied, implies, when-so, some-and}
 use Rattle.lines.specs.Obeys.{obeys-fair}
 use Rattle.lines.specs.Ways.{line-way, crossed-covers}
+use Rattle.lines.specs.Sets.{crossing}
 
 -- each kept request goes the way that exists
 pub record Laid (book : Book) (plan : Plan) : Type 0 where
@@ -33,6 +34,11 @@ pub earnings-worth : (book : Book) (plan : Plan) → earnings book plan ≡ wort
 unfolding earnings worth rowOf
 earnings-worth book plan = refl
 
+-- as many of a set cross a span as cover its cell
+pub crossing-row : {book : Book} → Line book → (x : ℕ → Bool) (s : ℕ) → crossing book (count book) x s ≡ Row.load (rowOf book) x s
+unfolding Row.load rowOf
+crossing-row {book} on x s = Σ-ext (count book) _ _ (λ i l. ap (λ (t : Bool). bit (x i && t)) (crossed-covers on i s l))
+
 -- ---- what a laid plan crosses
 
 module _ {book : Book} {plan : Plan} (laid : Laid book plan) where
@@ -40,7 +46,7 @@ module _ {book : Book} {plan : Plan} (laid : Laid book plan) where
   unfolding over crossed
   over-crossed i s l = when-so (kept plan i) (λ k. rw (laid .goes i l k))
 
-  pub load-crossed : (s : ℕ) → load book plan s ≡ Σ (count book) (λ i. bit (kept plan i && crossed book i s))
+  pub load-crossed : (s : ℕ) → load book plan s ≡ crossing book (count book) (kept plan) s
   unfolding load
   load-crossed s = Σ-ext (count book) _ _ (λ i l. ap bit (over-crossed i s l))
 
@@ -49,8 +55,7 @@ module _ {book : Book} {plan : Plan} (on : Line book) (laid : Laid book plan) wh
   over-covers i s l = over-crossed laid i s l ∙ ap (λ (t : Bool). kept plan i && t) (crossed-covers on i s l)
 
   pub load-row : (s : ℕ) → load book plan s ≡ Row.load (rowOf book) (kept plan) s
-  unfolding load Row.load rowOf
-  load-row s = Σ-ext (count book) _ _ (λ i l. ap bit (over-covers i s l))
+  load-row s = load-crossed laid s ∙ crossing-row on (kept plan) s
 
   pub within-row : ((s : ℕ) → s < spans book → load book plan s ≤ limit book s) → WithinLimits (rowOf book) (kept plan)
   unfolding rowOf

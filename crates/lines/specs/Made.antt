@@ -1,10 +1,9 @@
 -- On a line every kept set within the limits is the kept set of a plan that obeys the rules: lay each request on its way and give the
 -- channels by the rule, which finds one of 1 to k for each. Assumes nothing.
 use mathlib.Core.Path.{_≡_, sym, ap, _∙_}
-use mathlib.Core.Bool.{Bool, true, false, _&&_, cond}
+use mathlib.Core.Bool.{Bool, true, _&&_}
 use Prim.Native.Nat.{ℕ, _≤_, _<_}
 use native.Mathlib.Omega.{arith}
-use lib.Dec.{ltb}
 use Rattle.sums.specs.Sums.{bit, Σ-ext}
 use Rattle.sums.specs.Lowest.{lowest-upto}
 use Rattle.book.specs.Book.{Book, spans, limit, count, endA, endB}
@@ -16,6 +15,7 @@ use Rattle.row.specs.Channels.{Ruled, ruled-exists}
 use Rattle.row.specs.Same.{itself, ruled-same}
 use Rattle.lines.specs.RowOf.{rowOf}
 use Rattle.lines.specs.Line.{Line}
+use Rattle.lines.specs.Ways.{way-from}
 use Rattle.lines.specs.Laid.{Laid, load-crossed, ruled-rule}
 use Rattle.lines.specs.Sets.{crossing}
 use Rattle.lines.specs.Entries.{entered, kept-entered, way-entered, channel-entered}
@@ -27,22 +27,13 @@ pub record Made (book : Book) (x : ℕ → Bool) (plan : Plan) : Type 0 where
   pub fair : obeys book plan ≡ true
   pub rule : byRule book plan ≡ true
 
--- a way is never 0, so the entry of a kept request is not
-way-from : (book : Book) (i : ℕ) → 1 ≤ lineWay book i
-unfolding lineWay
-way-from book i = least (ltb (endA book i) (endB book i))
-  where
-    least : (t : Bool) → 1 ≤ cond {A = ℕ} t 1 2
-    least true = omega arith
-    least false = omega arith
-
 module _ {book : Book} (on : Line book) (x : ℕ → Bool) (channels : ℕ → ℕ) (ruled : Ruled (rowOf book) (book .channels) x channels) where
   plan : Plan
   plan = entered x (lineWay book) channels
 
   plan-keeps : (i : ℕ) → kept plan i ≡ x i
-  unfolding plan
-  plan-keeps i = kept-entered x (lineWay book) channels i (way-from book i)
+  unfolding plan lineWay
+  plan-keeps i = kept-entered x (lineWay book) channels i (way-from (endA book i) (endB book i))
 
   -- the rule goes no further than k + 1, and k is at most 96
   small : (i : ℕ) → i < count book → x i ≡ true → channels i < 256

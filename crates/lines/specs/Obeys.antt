@@ -1,7 +1,7 @@
 -- What `obeys` says, part by part, in the words of 01 ("Routes and a plan that obeys the rules"), for lines and rings. Each field of the
 -- record is a part of the test read as a statement, and the parts together give the test back. Assumes nothing.
 use mathlib.Core.Path.{_≡_}
-use mathlib.Core.Bool.{true, not, _&&_, _||_}
+use mathlib.Core.Bool.{true, not, _||_}
 use mathlib.Core.Logic.{⊎-elim}
 use Prim.Native.Nat.{ℕ, _≤_, _<_}
 use borrow.Author.Tests.{ltb-true, lt-ltb, leb-true, le-leb, eqb-true, eq-eqb}
@@ -34,12 +34,19 @@ module _ (book : Book) (plan : Plan) where
   unfolding share
   share-at i j e = let w = some-at (spans book) _ e in (w .0, w .1, left-of _ _ w.2, right-of (over book plan i w.0) _ w.2)
 
+  -- a way that exists and a channel from 1 to k
+  pub formed-has : (i : ℕ) → formed book plan i ≡ true → (wayExists book i (way plan i) ≡ true) × (1 ≤ channel plan i) × (channel plan i ≤ book .channels)
+  unfolding formed
+  formed-has i e =
+      let numbered = right-of (wayExists book i (way plan i)) _ e in
+      (left-of _ _ e, ltb-true _ _ (left-of _ _ numbered), leb-true _ _ (right-of (ltb 0 (channel plan i)) _ numbered))
+
   pub obeys-fair : obeys book plan ≡ true → Fair book plan
-  unfolding obeys formed apart
+  unfolding obeys apart
   obeys-fair e = record {
-    way-exists = λ i l k. left-of _ _ (form i l k);
-    channel-from = λ i l k. ltb-true _ _ (left-of _ _ (numbered i l k));
-    channel-upto = λ i l k. leb-true _ _ (right-of (ltb 0 (channel plan i)) _ (numbered i l k));
+    way-exists = λ i l k. formed-has i (form i l k) .0;
+    channel-from = λ i l k. formed-has i (form i l k) .1;
+    channel-upto = λ i l k. formed-has i (form i l k) .2;
     channels-differ = λ i j s li lj ls oi oj ne q. ne (eqb-true i j (implied-by-both _ _ _ (pair i j li lj) (share-of i j s ls oi oj) (eq-eqb _ _ q)));
     within-limits = λ s l. leb-true _ _ (each-at (spans book) _ (parts .2) s l);
   }
@@ -52,9 +59,6 @@ module _ (book : Book) (plan : Plan) where
 
       form : (i : ℕ) → i < count book → kept plan i ≡ true → formed book plan i ≡ true
       form i l k = implied (kept plan i) _ (each-at (count book) _ (parts .0) i l) k
-
-      numbered : (i : ℕ) → i < count book → kept plan i ≡ true → (ltb 0 (channel plan i) && leb (channel plan i) (book .channels)) ≡ true
-      numbered i l k = right-of (wayExists book i (way plan i)) _ (form i l k)
 
       pair : (i j : ℕ) → i < count book → j < count book → apart book plan i j ≡ true
       pair i j li lj = each-at (count book) _ (each-at (count book) _ (parts .1) i li) j lj

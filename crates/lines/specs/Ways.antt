@@ -1,7 +1,7 @@
 -- On a line a request has one way, and it crosses the spans between the two ends, which are the cells that the request is over in the row.
 -- Way 1 goes up from a and way 2 up from b, and the one that exists is the one that begins at the lower end. Assumes nothing.
 use mathlib.Core.Path.{_≡_}
-use mathlib.Core.Bool.{false, _&&_, and-true, and-false, or-false}
+use mathlib.Core.Bool.{Bool, true, false, _&&_, cond, and-true, and-false, or-false}
 use mathlib.Core.Logic.{⊎-elim}
 use Prim.Native.Nat.{ℕ, _-_, _≤_, _<_}
 use native.Mathlib.Omega.{arith}
@@ -9,10 +9,19 @@ use borrow.Author.Tests.{lt-ltb, le-ltb}
 use lib.Dec.{leb, ltb, eqb}
 use Rattle.sums.specs.Each.{less-or-not}
 use Rattle.book.specs.Book.{Book, isRing, spansOf, spans, count, endA, endB}
-use Rattle.rules.specs.Ways.{upward, crosses, wayExists, lineWay, crossed}
+use Rattle.rules.specs.Ways.{upward, crosses, wayExists, wayFrom, lineWay, crossed}
 use Rattle.row.specs.Row.{Proper, covers}
 use Rattle.lines.specs.RowOf.{rowOf}
 use Rattle.lines.specs.Line.{Line}
+
+-- a way is never 0, so the entry of a kept request is not
+pub way-from : (a b : ℕ) → 1 ≤ wayFrom a b
+unfolding wayFrom
+way-from a b = least (ltb a b)
+  where
+    least : (t : Bool) → 1 ≤ cond {A = ℕ} t 1 2
+    least true = omega arith
+    least false = omega arith
 
 module _ {book : Book} (on : Line book) where
   pub no-ring : isRing book ≡ false
@@ -23,11 +32,11 @@ module _ {book : Book} (on : Line book) where
   line-spans = rw (on .line)
 
   -- where a is not the lower end, b is
-  b-lower : (i : ℕ) → i < count book → endB book i ≤ endA book i → endB book i < endA book i
+  pub b-lower : (i : ℕ) → i < count book → endB book i ≤ endA book i → endB book i < endA book i
   b-lower i l h = omega (arith, on .sound .ends-differ i l)
 
   pub line-way : (i w : ℕ) → i < count book → wayExists book i w ≡ eqb w (lineWay book i)
-  unfolding wayExists lineWay
+  unfolding wayExists wayFrom lineWay
   line-way i w l = ⊎-elim up down (less-or-not a b)
     where
       a : ℕ
@@ -43,7 +52,7 @@ module _ {book : Book} (on : Line book) where
       down h = simp (no-ring, le-ltb a b h, lt-ltb b a (b-lower i l h), and-true, and-false)
 
   pub crossed-covers : (i s : ℕ) → i < count book → crossed book i s ≡ covers (rowOf book) i s
-  unfolding crossed crosses lineWay upward rowOf covers
+  unfolding crossed crosses wayFrom lineWay upward rowOf covers
   crossed-covers i s l = ⊎-elim up down (less-or-not (endA book i) (endB book i))
     where
       -- the spans from u up to v

@@ -14,8 +14,7 @@ use Rattle.book.specs.Columns.{at}
 use Rattle.book.specs.Reading.{done, refused, andThen, refused-not-done}
 use Rattle.rules.specs.Cuts.{cut, cutShown}
 use Rattle.rules.specs.Operations.{placesShort, plannableIn, Planned, Priced}
-use Rattle.lines.specs.Line.{Line}
-use Rattle.lines.specs.Ways.{line-spans}
+use Rattle.lines.specs.HeldLine.{line-held}
 use Rattle.rings.specs.Never15.{line-plan, ring-plan}
 use Rattle.records.specs.declared.Network.{Network}
 use Rattle.records.specs.declared.Refusal.{Refusal}
@@ -65,10 +64,9 @@ beside net n a b found =
 abbrev pub held-line :
     {net : Network} {n : ℕ} {limits a b profits : List ℕ} → net .shape ≡ 1 → HeldBook net n limits a b profits → CanPlanLine (net .nodes) (net .channels) n limits a b profits
 held-line e held =
-    let on-line : Line (held .book) = record { line = held .shape-is ∙ e; sound = held .sound } in
     record {
       book = held .book;
-      held = record { line = on-line; spans-is = omega (arith, held .nodes-is, line-spans on-line); holds = held .holds };
+      held = line-held (record { line = held .shape-is ∙ e; sound = held .sound }) (sym (held .nodes-is)) (held .holds);
       channels-is = sym (held .channels-is);
     }
 

@@ -5,6 +5,7 @@ use mathlib.Core.Path.{_≡_}
 use Prim.Native.Nat.{ℕ, suc, _≤_, _<_}
 use native.Mathlib.Omega.{arith}
 use Rattle.row.specs.Row.{Row}
+use Rattle.row.specs.Meets.{first-in}
 use Rattle.flow.specs.Balanced.{Proper, Deep, Balanced}
 
 module _ {row : Row} {t : ℕ} {x : ℕ → Bool} {s N N′ : ℕ → ℕ} (proper : Proper row t) (same : (v : ℕ) → v ≤ row .cells → N′ v ≡ N v) where
@@ -17,7 +18,7 @@ module _ {row : Row} {t : ℕ} {x : ℕ → Bool} {s N N′ : ℕ → ℕ} (prop
   }
     where
       first : (i : ℕ) → i < t → N′ (row .lo i) ≡ N (row .lo i)
-      first i l = same (row .lo i) (omega (arith, proper .some-cell i l, proper .in-row i l))
+      first i l = same (row .lo i) (first-in proper i l)
 
       last : (i : ℕ) → i < t → N′ (row .hi i) ≡ N (row .hi i)
       last i l = same (row .hi i) (proper .in-row i l)

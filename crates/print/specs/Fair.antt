@@ -6,15 +6,16 @@ use mathlib.Core.Logic.{⊎-elim}
 use mathlib.Core.Path.{_≡_}
 use Prim.Native.Nat.{ℕ, _+_, _*_, _≤_, _<_}
 use native.Mathlib.Omega.{arith}
-use borrow.Author.Tests.{eqb-true, not-false}
+use borrow.Author.Tests.{eqb-true}
 use lib.Dec.{ltb, eqb}
 use Rattle.sums.specs.Each.{decided, either, left-of}
 use Rattle.book.specs.Book as Books
 use Rattle.book.specs.Book.{Book, isRing, endA, endB}
 use Rattle.book.specs.Sound.{Sound}
-use Rattle.book.specs.Columns.{at, Holds}
+use Rattle.book.specs.Columns.{at, Holds, few, a-node, b-node}
 use Rattle.rules.specs.Ways.{wayExists}
 use Rattle.rules.specs.Plans.{Plan, kept, way, channel, obeys}
+use Rattle.lines.specs.Entries.{not-kept-zero}
 use Rattle.lines.specs.Obeys.{Fair, obeys-fair}
 use Rattle.print.specs.Promise.{Printable}
 
@@ -31,7 +32,7 @@ entry-small : (book : Book) (plan : Plan) (i : ℕ) → Sound book → Fair book
 unfolding kept way channel
 entry-small book plan i sound fair h =
     ⊎-elim (λ k. omega (arith, two-ways book i (way plan i) (fair .way-exists i h k), fair .channel-upto i h k, sound .channels-upto))
-    (λ k. omega (arith, eqb-true (plan i) 0 (not-false (eqb (plan i) 0) k)))
+    (λ k. omega (arith, not-kept-zero plan i k))
     (decided (kept plan i))
 
 pub fair-printable :
@@ -39,8 +40,8 @@ pub fair-printable :
     → Sound book → Holds book count limits a b profits → obeys book (at entries) ≡ true → Printable count a b entries
 fair-printable {book} {entries} sound holds e =
     record {
-      many = omega (arith, sound .count-upto, holds .counted);
-      a-node = λ i h. omega (arith, holds .a-is i h, sound .a-node i (omega (arith, holds .counted)), sound .nodes-upto);
-      b-node = λ i h. omega (arith, holds .b-is i h, sound .b-node i (omega (arith, holds .counted)), sound .nodes-upto);
+      many = few sound holds;
+      a-node = λ i h. omega (arith, a-node sound holds i h, sound .nodes-upto);
+      b-node = λ i h. omega (arith, b-node sound holds i h, sound .nodes-upto);
       entry = λ i h. entry-small book (at entries) i sound (obeys-fair book (at entries) e) (omega (arith, holds .counted));
     }

@@ -5,12 +5,11 @@ use mathlib.Core.List.{List, [], _++_}
 use mathlib.Core.Path.{_≡_, refl, ap, ap₂}
 use Prim.Native.Nat.{ℕ, zero, suc, _<_}
 use native.Mathlib.Omega.{arith}
-use borrow.Author.Tests.{eqb-true, not-false}
-use lib.Dec.{eqb}
 use Rattle.text.specs.Words.{word}
 use Rattle.text.specs.Decimal.{decimal}
 use Rattle.book.specs.Book.{Book, isLine, count, endA, endB}
 use Rattle.rules.specs.Plans.{Plan, kept, way, channel}
+use Rattle.lines.specs.Entries.{not-kept-zero}
 
 -- "a refusal prints the one line `refused N at P` and nothing else"
 unfoldable pub printedRefusal : ℕ → ℕ → List ℕ
@@ -40,8 +39,8 @@ printedPlan book plan earned number cut = firstLine (isLine book) earned number 
 
 -- "way and channel 0 when not kept"
 pub not-kept : (book : Book) (plan : Plan) (i : ℕ) → kept plan i ≡ false → printedRequest book plan i ≡ requestLine i (endA book i) (endB book i) 0 0
-unfolding printedRequest kept way channel
-not-kept book plan i e = let none : plan i ≡ 0 = eqb-true (plan i) 0 (not-false (eqb (plan i) 0) e) in rw none
+unfolding printedRequest way channel
+not-kept book plan i e = rw (not-kept-zero plan i e)
 
 -- texts of equal lines are equal
 pub lines-ext : (n : ℕ) (f g : ℕ → List ℕ) → ((i : ℕ) → i < n → f i ≡ g i) → lines n f ≡ lines n g

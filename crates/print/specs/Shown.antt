@@ -10,7 +10,7 @@ use Rattle.book.specs.Bytes.{two, four, entryIn}
 use Rattle.book.specs.Book.{spansOf, spans, limit, count, endA, endB, profit}
 use Rattle.book.specs.Refusals.{start, records, shapeIn, nodesIn, channelsIn, spansIn, limitIn, aIn, bIn, profitIn}
 use Rattle.book.specs.Reading.{requestOf, bookOf}
-use Rattle.rules.specs.Ways.{upward, crosses, lineWay, crossed}
+use Rattle.rules.specs.Ways.{upward, crosses, wayFrom, lineWay, crossed}
 use Rattle.rules.specs.Plans.{kept, way, channel, numberKept, earnings}
 use Rattle.rules.specs.Best.{fits, lowered, bestWithin, best}
 use Rattle.rules.specs.Cuts.{steps, spanAt, moved, cutLine, cutBest, cut, cutShown}
@@ -33,7 +33,7 @@ shown-B = refl
 pub shown-E :
     shown bookE (entry 0 0 (entry 1 1 (entry 1 1 (entry 1 1 []))))
     ≡ word "profit 15 kept 3 cut 0\n" ++ word "0 0 1 0 0\n" ++ word "1 1 2 1 1\n" ++ word "2 2 3 1 1\n" ++ word "3 3 0 1 1\n"
-unfolding each some seek Σ table two four entryIn spansOf spans limit count endA endB profit start records shapeIn nodesIn channelsIn spansIn limitIn aIn bIn profitIn requestOf bookOf upward crosses lineWay crossed kept way channel numberKept earnings fits lowered bestWithin best steps spanAt moved cutLine cutBest cut cutShown digitsOf decimal firstLine requestLine lines printedRequest printedPlan
+unfolding each some seek Σ table two four entryIn spansOf spans limit count endA endB profit start records shapeIn nodesIn channelsIn spansIn limitIn aIn bIn profitIn requestOf bookOf upward crosses wayFrom lineWay crossed kept way channel numberKept earnings fits lowered bestWithin best steps spanAt moved cutLine cutBest cut cutShown digitsOf decimal firstLine requestLine lines printedRequest printedPlan
 shown-E = refl
 
 -- a network record alone is 5 at place 1

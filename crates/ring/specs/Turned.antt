@@ -6,14 +6,13 @@ use mathlib.Core.Path.{_≡_, refl, ap₂, subst, _∙_}
 use Prim.Native.Nat.{ℕ, _+_, _-_, _≤_, _<_}
 use native.Mathlib.Omega.{arith}
 use Rattle.sums.specs.Filled.{Filled}
-use Rattle.book.specs.Book as Books
-use Rattle.book.specs.Columns.{at, Holds}
+use Rattle.book.specs.Columns.{at, Holds, few, a-node, b-node}
 use Rattle.rules.specs.Plans.{Best}
 use Rattle.rules.specs.Channels.{byRule}
 use Rattle.rules.specs.Best.{best}
 use Rattle.rules.specs.Cuts as Cuts
 use Rattle.rules.specs.Cuts.{steps, spanAt, cutLine, cutBest}
-use Rattle.lines.specs.Ways.{line-spans}
+use Rattle.lines.specs.HeldLine.{line-held}
 use Rattle.rings.specs.CutLine.{ring-spans, cut-line}
 use Rattle.rings.specs.Choice.{cut-in}
 use Rattle.rings.specs.Fair as F
@@ -35,18 +34,12 @@ module _ {nodes channels count : ℕ} {limits a b profits : List ℕ} (w : CanPl
   pub chosen-in : {j : ℕ} → j ≡ Cuts.cut (w .book) → j < nodes
   chosen-in e = omega (arith, e, cut-in (w .ring), ring-spans (w .ring), w .nodes-is)
 
-  known : (i : ℕ) → i < count → i < Books.count (w .book)
-  known i l = omega (arith, w .holds .counted)
-
-  few : count ≤ 256
-  few = omega (arith, w .holds .counted, w .ring .sound .count-upto)
-
   -- both columns of ends can be turned
   pub a-nodes : (j : ℕ) → j < nodes → Nodes nodes j count a
-  a-nodes j l = record { cut-in = l; n-upto = few-nodes; count-upto = few; are-nodes = λ i h. omega (arith, w .holds .a-is i h, w .ring .sound .a-node i (known i h), w .nodes-is) }
+  a-nodes j l = record { cut-in = l; n-upto = few-nodes; count-upto = few (w .ring .sound) (w .holds); are-nodes = λ i h. omega (arith, a-node (w .ring .sound) (w .holds) i h, w .nodes-is) }
 
   pub b-nodes : (j : ℕ) → j < nodes → Nodes nodes j count b
-  b-nodes j l = record { cut-in = l; n-upto = few-nodes; count-upto = few; are-nodes = λ i h. omega (arith, w .holds .b-is i h, w .ring .sound .b-node i (known i h), w .nodes-is) }
+  b-nodes j l = record { cut-in = l; n-upto = few-nodes; count-upto = few (w .ring .sound) (w .holds); are-nodes = λ i h. omega (arith, b-node (w .ring .sound) (w .holds) i h, w .nodes-is) }
 
   module _ (j : ℕ) (cut : j < nodes) {limits′ a′ b′ : List ℕ}
       (turned : Filled (λ t. at limits (spanAt nodes j t)) (nodes - 1) limits′) (from : Filled (λ i. steps nodes (j + 1) (at a i)) count a′) (to : Filled (λ i. steps nodes (j + 1) (at b i)) count b′)
@@ -61,10 +54,9 @@ module _ {nodes channels count : ℕ} {limits a b profits : List ℕ} (w : CanPl
       pub cut-plannable : CanPlanLine nodes channels count limits′ a′ b′ profits
       unfolding cutLine
       cut-plannable =
-          let on-line = cut-line (w .ring) j (omega (arith, w .nodes-is, ring-spans (w .ring))) in
           record {
             book = cutLine (w .book) j;
-            held = record { line = on-line; spans-is = omega (arith, w .nodes-is, line-spans on-line); holds = turned-line };
+            held = line-held (cut-line (w .ring) j (omega (arith, w .nodes-is, ring-spans (w .ring)))) (w .nodes-is) turned-line;
             channels-is = w .channels-is;
           }
 

@@ -10,32 +10,38 @@ use lib.Dec.{leb, ltb}
 use Rattle.sums.specs.Each.{less-or-not, decided, fails}
 use Rattle.book.specs.Means.{less, at-most, and, or}
 use Rattle.book.specs.Book.{Book, spans, count, endA, endB}
-use Rattle.rules.specs.Ways.{upward, crosses, wayExists, lineWay}
+use Rattle.rules.specs.Ways.{upward, crosses, wayExists, wayFrom, lineWay}
 use Rattle.rules.specs.Cuts.{steps, spanAt, cutLine}
-use Rattle.lines.specs.Ways.{line-way}
+use Rattle.lines.specs.Ways.{b-lower, line-way}
 use Rattle.rings.specs.Ring.{Ring}
 use Rattle.rings.specs.Turn.{StepsTo, steps-lead, place-below, span-below, place-of-span}
 use Rattle.rings.specs.CutLine.{ring-spans, cut-count, cut-a, cut-b, cut-line}
 
 -- ---- what `upward` means
 
+upward-ahead : (u v s : ℕ) → u < v → upward u v s ≡ (leb u s && ltb s v)
+unfolding upward
+upward-ahead u v s l = ap (λ t. cond t (leb u s && ltb s v) (leb u s || ltb s v)) (lt-ltb u v l)
+
+upward-round : (u v s : ℕ) → v ≤ u → upward u v s ≡ (leb u s || ltb s v)
+unfolding upward
+upward-round u v s l = ap (λ t. cond t (leb u s && ltb s v) (leb u s || ltb s v)) (le-ltb u v l)
+
 abbrev Up : ℕ → ℕ → ℕ → Type 0
 Up u v s = ((u < v) × (u ≤ s) × (s < v)) ⊎ ((v ≤ u) × ((u ≤ s) ⊎ (s < v)))
 
 upward-is : (u v s : ℕ) → upward u v s ≡ true → Up u v s
-unfolding upward
 upward-is u v s e = ⊎-elim ahead round (less-or-not u v)
   where
     ahead : u < v → Up u v s
-    ahead l = let w = and at-most less .0 (ap (λ t. cond t (leb u s && ltb s v) (leb u s || ltb s v)) (sym (lt-ltb u v l)) ∙ e) in inl (l, w .0, w .1)
+    ahead l = let w = and at-most less .0 (sym (upward-ahead u v s l) ∙ e) in inl (l, w .0, w .1)
 
     round : v ≤ u → Up u v s
-    round l = inr (l, or at-most less .0 (ap (λ t. cond t (leb u s && ltb s v) (leb u s || ltb s v)) (sym (le-ltb u v l)) ∙ e))
+    round l = inr (l, or at-most less .0 (sym (upward-round u v s l) ∙ e))
 
 is-upward : (u v s : ℕ) → Up u v s → upward u v s ≡ true
-unfolding upward
-is-upward u v s (inl w) = ap (λ t. cond t (leb u s && ltb s v) (leb u s || ltb s v)) (lt-ltb u v (w .0)) ∙ and at-most less .1 (w .1, w .2)
-is-upward u v s (inr w) = ap (λ t. cond t (leb u s && ltb s v) (leb u s || ltb s v)) (le-ltb u v (w .0)) ∙ or at-most less .1 (w .1)
+is-upward u v s (inl w) = upward-ahead u v s (w .0) ∙ and at-most less .1 (w .1, w .2)
+is-upward u v s (inr w) = upward-round u v s (w .0) ∙ or at-most less .1 (w .1)
 
 -- two tests that pass together are the same
 same-test : {s t : Bool} → (s ≡ true → t ≡ true) → (t ≡ true → s ≡ true) → s ≡ t
@@ -114,8 +120,8 @@ module _ {book : Book} (on : Ring book) (j : ℕ) (cut : j < spans book) (i w : 
 
   -- the way that exists on the line goes up from the end that comes first on it
   which : ((w ≡ 1) × (endA (cutLine book j) i < endB (cutLine book j) i)) ⊎ ((w ≡ 2) × (endB (cutLine book j) i < endA (cutLine book j) i))
-  unfolding lineWay
-  which = ⊎-elim (λ (l : a′ < b′). inl (is ∙ ap (λ t. cond t 1 2) (lt-ltb a′ b′ l), l)) (λ (l : b′ ≤ a′). inr (is ∙ ap (λ t. cond t 1 2) (le-ltb a′ b′ l), apart l)) (less-or-not a′ b′)
+  unfolding wayFrom lineWay
+  which = ⊎-elim (λ (l : a′ < b′). inl (is ∙ ap (λ t. cond t 1 2) (lt-ltb a′ b′ l), l)) (λ (l : b′ ≤ a′). inr (is ∙ ap (λ t. cond t 1 2) (le-ltb a′ b′ l), b-lower (cut-line on j cut) i known l)) (less-or-not a′ b′)
     where
       a′ : ℕ
       a′ = endA (cutLine book j) i
@@ -128,9 +134,6 @@ module _ {book : Book} (on : Ring book) (j : ℕ) (cut : j < spans book) (i w : 
 
       is : w ≡ lineWay (cutLine book j) i
       is = eqb-true _ _ (sym (line-way (cut-line on j cut) i w known) ∙ exists)
-
-      apart : b′ ≤ a′ → b′ < a′
-      apart l = ⊎-elim (λ k. k) (λ k. let same : a′ ≡ b′ = omega arith in absurd (cut-line on j cut .sound .ends-differ i known same)) (less-or-not b′ a′)
 
   pub crosses-place : (t : ℕ) → t + 1 < book .nodes → crosses book i w (spanAt (book .nodes) j t) ≡ crosses (cutLine book j) i w t
   crosses-place t h = ⊎-elim one two which

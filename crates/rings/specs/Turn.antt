@@ -1,6 +1,6 @@
 -- Places along the line which a cut leaves: a node or a span is counted from the node after the cut. Every number but the cut's own span has one place, and
 -- going round the ring from the cut is going along the line. Assumes nothing.
-use mathlib.Core.Path.{_≡_, ap, _∙_}
+use mathlib.Core.Path.{_≡_, sym, ap}
 use mathlib.Core.Bool.{cond}
 use mathlib.Core.Logic.{_⊎_, inl, inr, ⊎-elim}
 use Prim.Native.Nat.{ℕ, _+_, _-_, _≤_, _<_}
@@ -13,14 +13,21 @@ use Rattle.rules.specs.Cuts.{steps, spanAt}
 pub record StepsTo (n u v p : ℕ) : Type 0 where
   pub case : ((u ≤ v) × (p + u ≡ v)) ⊎ ((v < u) × (p + u ≡ v + n))
 
-pub steps-lead : (n u v : ℕ) → u ≤ n → StepsTo n u v (steps n u v)
+pub steps-ahead : (n u v : ℕ) → u ≤ v → v - u ≡ steps n u v
 unfolding steps
+steps-ahead n u v h = ap (λ t. cond t (v - u) (v + n - u)) (sym (le-leb u v h))
+
+pub steps-round : (n u v : ℕ) → v < u → v + n - u ≡ steps n u v
+unfolding steps
+steps-round n u v h = ap (λ t. cond t (v - u) (v + n - u)) (sym (lt-leb u v h))
+
+pub steps-lead : (n u v : ℕ) → u ≤ n → StepsTo n u v (steps n u v)
 steps-lead n u v h =
     record {
       case =
           ⊎-elim
-          (λ (l : v < u). inr (l, ap (λ (p : ℕ). p + u) (ap (λ b. cond b (v - u) (v + n - u)) (lt-leb u v l)) ∙ omega arith))
-          (λ (l : u ≤ v). inl (l, ap (λ (p : ℕ). p + u) (ap (λ b. cond b (v - u) (v + n - u)) (le-leb u v l)) ∙ omega arith))
+          (λ (l : v < u). inr (l, omega (arith, steps-round n u v l)))
+          (λ (l : u ≤ v). inl (l, omega (arith, steps-ahead n u v l)))
           (less-or-not v u);
     }
 
@@ -28,14 +35,21 @@ steps-lead n u v h =
 pub record Stands (n j t s : ℕ) : Type 0 where
   pub case : ((n ≤ j + 1 + t) × (s + n ≡ j + 1 + t)) ⊎ ((j + 1 + t < n) × (s ≡ j + 1 + t))
 
-pub span-stands : (n j t : ℕ) → Stands n j t (spanAt n j t)
+pub span-round : (n j t : ℕ) → n ≤ j + 1 + t → j + 1 + t - n ≡ spanAt n j t
 unfolding spanAt
+span-round n j t h = ap (λ b. cond b (j + 1 + t - n) (j + 1 + t)) (sym (le-leb n (j + 1 + t) h))
+
+pub span-ahead : (n j t : ℕ) → j + 1 + t < n → j + 1 + t ≡ spanAt n j t
+unfolding spanAt
+span-ahead n j t h = ap (λ b. cond b (j + 1 + t - n) (j + 1 + t)) (sym (lt-leb n (j + 1 + t) h))
+
+pub span-stands : (n j t : ℕ) → Stands n j t (spanAt n j t)
 span-stands n j t =
     record {
       case =
           ⊎-elim
-          (λ (l : j + 1 + t < n). inr (l, ap (λ b. cond b (j + 1 + t - n) (j + 1 + t)) (lt-leb n (j + 1 + t) l)))
-          (λ (l : n ≤ j + 1 + t). inl (l, ap (λ (p : ℕ). p + n) (ap (λ b. cond b (j + 1 + t - n) (j + 1 + t)) (le-leb n (j + 1 + t) l)) ∙ omega arith))
+          (λ (l : j + 1 + t < n). inr (l, sym (span-ahead n j t l)))
+          (λ (l : n ≤ j + 1 + t). inl (l, omega (arith, span-round n j t l)))
           (less-or-not (j + 1 + t) n);
     }
 

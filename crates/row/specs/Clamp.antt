@@ -3,7 +3,7 @@
 use mathlib.Core.Bool.{Bool, true, false}
 use Prim.Native.Nat.{ℕ, zero, suc, _≤_, _<_, min}
 use native.Mathlib.Omega.{arith}
-use Rattle.sums.specs.Sums.{Σ, when, Σ-le}
+use Rattle.sums.specs.Sums.{Σ, when, Σ-le, when-upto}
 use Rattle.row.specs.Row.{Row, covers, fare, Tight}
 
 -- each price, but no more than the cap
@@ -21,10 +21,6 @@ part-keeps : (t : Bool) (cap p : ℕ) → min cap (when t p) ≤ when t (min cap
 part-keeps true cap p = omega arith
 part-keeps false cap p = omega arith
 
-part-falls : (t : Bool) (cap p : ℕ) → when t (min cap p) ≤ when t p
-part-falls true cap p = omega arith
-part-falls false cap p = omega arith
-
 module _ (row : Row) (y : ℕ → ℕ) (cap i : ℕ) where
   fare-keeps : min cap (fare row y i) ≤ fare row (clamp cap y) i
   unfolding fare clamp
@@ -32,7 +28,7 @@ module _ (row : Row) (y : ℕ → ℕ) (cap i : ℕ) where
 
   fare-falls : fare row (clamp cap y) i ≤ fare row y i
   unfolding fare clamp
-  fare-falls = Σ-le (row .cells) _ _ (λ j l. part-falls (covers row i j) cap (y j))
+  fare-falls = Σ-le (row .cells) _ _ (λ j l. when-upto (covers row i j) (min cap (y j)) (y j) (omega arith))
 
 pub clamped : (row : Row) (x : ℕ → Bool) (y : ℕ → ℕ) (cap : ℕ) → ((i : ℕ) → i < row .count → row .profit i ≤ cap) → Tight row x y → Tight row x (clamp cap y)
 unfolding clamp

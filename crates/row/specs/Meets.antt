@@ -9,9 +9,13 @@ use native.Mathlib.Omega.{arith}
 use borrow.Author.Tests.{ltb-true, lt-ltb, leb-true, le-leb, eqb-true, eq-eqb}
 use lib.Dec.{leb, ltb, eqb}
 use Rattle.sums.specs.Each.{some-at, some-ext, both, left-of, right-of, either, or-left, or-right, less-or-not}
-use Rattle.row.specs.Row.{Row, covers, before, meet}
+use Rattle.row.specs.Row.{Row, Proper, covers, before, meet}
 
 -- ---- over a cell
+
+-- a real interval begins at a node of the row
+pub first-in : {row : Row} {t : ℕ} → Proper row t → (i : ℕ) → i < t → row .lo i ≤ row .cells
+first-in p i l = omega (arith, p .some-cell i l, p .in-row i l)
 
 pub covers-of : (row : Row) (i c : ℕ) → row .lo i ≤ c → c < row .hi i → covers row i c ≡ true
 unfolding covers

@@ -18,9 +18,13 @@ unfoldable pub wayExists : Book → ℕ → ℕ → Bool
 wayExists book i way =
     (eqb way 1 && (isRing book || ltb (endA book i) (endB book i))) || (eqb way 2 && (isRing book || ltb (endB book i) (endA book i)))
 
+-- on a line, the way that exists from node a to node b
+unfoldable pub wayFrom : ℕ → ℕ → ℕ
+wayFrom a b = cond (ltb a b) 1 2
+
 -- on a line, the way that exists for request i, and the spans which that way crosses
 unfoldable pub lineWay : Book → ℕ → ℕ
-lineWay book i = cond (ltb (endA book i) (endB book i)) 1 2
+lineWay book i = wayFrom (endA book i) (endB book i)
 
 unfoldable pub crossed : Book → ℕ → ℕ → Bool
 crossed book i s = crosses book i (lineWay book i) s

@@ -84,6 +84,10 @@ pub when-le : (t : Bool) (x : ℕ) → when t x ≤ x
 when-le true x = omega arith
 when-le false x = omega arith
 
+pub when-upto : (t : Bool) (x y : ℕ) → x ≤ y → when t x ≤ when t y
+when-upto true x y h = h
+when-upto false x y h = omega arith
+
 pub bit-le : (t : Bool) → bit t ≤ 1
 bit-le t = when-le t 1
 

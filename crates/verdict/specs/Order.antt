@@ -17,7 +17,7 @@ use Rattle.book.specs.Reading.{done, refused}
 use Rattle.rules.specs.Prices.{verdict}
 use Rattle.rules.specs.Operations.{tooShort, tooDear, checking}
 use Rattle.lines.specs.Line.{Line}
-use Rattle.lines.specs.Ways.{line-spans}
+use Rattle.lines.specs.HeldLine.{HeldLine, line-held}
 use Rattle.records.specs.declared.Network.{Network}
 use Rattle.columns.specs.Seam.{HeldBook}
 use Rattle.verdict.specs.CanCheck.{CanCheck}
@@ -36,8 +36,11 @@ module _
         sound = h .sound;
       }
 
+      on-line : HeldLine (h .book) (network .nodes - 1) held limits a b profits
+      on-line = line-held line (sym (h .nodes-is)) (h .holds)
+
       spans-are : spans (h .book) ≡ network .nodes - 1
-      spans-are = rw (← h .nodes-is) (line-spans line)
+      spans-are = sym (on-line .spans-is)
 
       -- the lists, measured in whole places
       module _ (lacks : Bool) (measured : lacks ≡ (ltb (entryPlaces entries) held || ltb (pricePlaces prices) (network .nodes - 1))) where
@@ -72,7 +75,7 @@ module _
               pub can-check : CanCheck (network .nodes - 1) limits held a b profits entries prices
               can-check = record {
                 book = h .book;
-                held = record { line = line; spans-is = sym spans-are; holds = h .holds };
+                held = on-line;
                 entries-enough = omega (arith, entries-reach);
                 prices-enough = omega (arith, prices-reach);
                 price-upto = λ s l. W.all-low (h .book) prices no-dear s (omega (arith, spans-are));

@@ -1,15 +1,15 @@
 -- `lawful::way_of` meets its contract, arm by arm. Assumes nothing.
 use borrow.Author.Tests.{lt-ltb, le-ltb}
-use Rattle.lawful.specs.Entry.{wayAt}
+use Rattle.rules.specs.Ways.{wayFrom}
 use Rattle.lawful.proofs.way_of.Statement.{statement}
 use Rattle.lawful.proofs.way_of.Tie as tie
 
 returns : tie.Need-returns
-unfolding wayAt
+unfolding wayFrom
 returns c = rw (lt-ltb _ _ (c .if1 .taken))
 
 returns-2 : tie.Need-returns-2
-unfolding wayAt
+unfolding wayFrom
 returns-2 c = rw (le-ltb _ _ (c .if1 .left))
 
 pub way-of-spec : {M : Type 1} → statement M

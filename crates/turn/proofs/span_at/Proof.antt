@@ -1,7 +1,7 @@
 -- `turn::span_at` meets its contract: each branch is one case of the definition. Assumes nothing.
 use borrow.Author.Needs.{needs}
 use native.Mathlib.Omega.{arith}
-use Rattle.turn.specs.Nodes.{span-round, span-ahead}
+use Rattle.rings.specs.Turn.{span-round, span-ahead}
 use Rattle.turn.proofs.span_at.Statement.{statement}
 use Rattle.turn.proofs.span_at.Tie as tie
 

@@ -1,7 +1,7 @@
 -- `turn::steps` meets its contract: each branch is one case of the definition. Assumes nothing.
 use borrow.Author.Needs.{needs}
 use native.Mathlib.Omega.{arith}
-use Rattle.turn.specs.Nodes.{steps-ahead, steps-round}
+use Rattle.rings.specs.Turn.{steps-ahead, steps-round}
 use Rattle.turn.proofs.steps.Statement.{statement}
 use Rattle.turn.proofs.steps.Tie as tie
 
