@@ -6,13 +6,13 @@ use mathlib.Core.Bool.{Bool, true, false, not, _&&_, cond}
 use mathlib.Core.List.{List}
 use mathlib.Core.Logic.{_↔_, _⊎_, inl, inr, ⊎-elim, Iff·trans}
 use Prim.Native.Nat.{ℕ, zero, suc, _+_, _-_, _%_, _≤_, _<_}
-use native.Mathlib.Nat.{eq-or-lt-of-le, le-of-suc-le-suc}
 use native.Mathlib.Omega.{arith}
+use borrow.Author.Count.{below-more}
 use lib.ListN.{length}
 use lib.Dec.{ltb, eqb}
 use Rattle.book.specs.Bytes.{byte, blank}
 use Rattle.book.specs.Book.{Book}
-use Rattle.book.specs.Refusals.{start, records, present, kindIn, markIn, numberIn, shapeIn, nodesIn, channelsIn, spansIn, limitIn, aIn, bIn, profitIn, countWrong, networkWrong, nodesWrong, channelsWrong, spanWrong, markWrong, limitWrong, tooMany, requestWrong, endsWrong, profitWrong, rows, broken}
+use Rattle.book.specs.Refusals.{start, records, present, kindIn, markIn, numberIn, shapeIn, nodesIn, channelsIn, spansIn, limitIn, aIn, bIn, profitIn, known, fewest, countWrong, networkWrong, nodesWrong, channelsWrong, spanWrong, markWrong, limitWrong, tooMany, requestWrong, endsWrong, profitWrong, rows, broken}
 use Rattle.book.specs.Reading.{done, refused, due, reading}
 use Rattle.book.specs.Laws.{Given, span-looked-at, refused-given, given-refused, broken-unread}
 use Rattle.book.specs.Means.{less, at-most, same, not-less, not-so, is-not, and, or, or₃, or₄, to-the-right, not-each, and₃}
@@ -40,14 +40,15 @@ abbrev pub Row2 : List ℕ → ℕ → Type 0
 Row2 f r = (r ≡ 0) × ((kindIn f 0 ≡ 1 → ⊥) ⊎ ((shapeIn f ≡ 1) ⊎ (shapeIn f ≡ 2) → ⊥) ⊎ NotBlank f 6 10)
 
 pub row-2 : (f : List ℕ) (r : ℕ) → broken f r 2 ≡ true ↔ Row2 f r
-unfolding rows networkWrong
+unfolding rows networkWrong known
 row-2 f r = and same (or₃ (is-not same) (is-not (or same same)) (not-blank f 6 10))
 
 -- 3: nodes outside the range for the shape, 2 to 64 on a line and 3 to 64 on a ring
 abbrev pub Row3 : List ℕ → ℕ → Type 0
 Row3 f r = (r ≡ 0) × ((nodesIn f < 2) ⊎ ((shapeIn f ≡ 2) × (nodesIn f < 3)) ⊎ (64 < nodesIn f))
 
-too-few : (n shape : ℕ) → ltb n (cond (eqb shape 2) 3 2) ≡ true ↔ (n < 2) ⊎ ((shape ≡ 2) × (n < 3))
+too-few : (n shape : ℕ) → ltb n (fewest shape) ≡ true ↔ (n < 2) ⊎ ((shape ≡ 2) × (n < 3))
+unfolding fewest
 too-few n shape = by (eqb shape 2) refl
   where
     by : (t : Bool) → eqb shape 2 ≡ t → ltb n (cond t 3 2) ≡ true ↔ (n < 2) ⊎ ((shape ≡ 2) × (n < 3))
@@ -151,16 +152,13 @@ not-network f r h (suc (suc (suc zero))) l = not-so (row-3 f r) .1 (λ w. omega 
 not-network f r h (suc (suc (suc (suc zero)))) l = not-so (row-4 f r) .1 (λ w. omega arith)
 not-network f r h (suc (suc (suc (suc (suc m))))) l = absurd (omega arith)
 
-one-more : (t : ℕ → Bool) (n : ℕ) → ((m : ℕ) → m < n → t m ≡ false) → t n ≡ false → (m : ℕ) → m < suc n → t m ≡ false
-one-more t n below e m h = ⊎-elim (λ q. rw q e) (λ l. below m l) (eq-or-lt-of-le (le-of-suc-le-suc h))
-
 at-span : (f : List ℕ) (n r : ℕ) → r ≤ spansIn f → n < 12 → broken f r n ≡ true → ((m : ℕ) → m < n → broken f r m ≡ false) → CleanBefore f r → reading f ≡ refused n r
 at-span f n r l t here lower before =
     given-refused f n r (record { in-table = t; looked-at = span-looked-at f r l; here = here; lower = lower; before = before })
 
 -- rows 1 to 5 are not broken
 below-6 : (f : List ℕ) (r : ℕ) → 0 < r → (Row5 f r → ⊥) → (m : ℕ) → m < 6 → broken f r m ≡ false
-below-6 f r h not5 = one-more (broken f r) 5 (not-network f r h) (not-so (row-5 f r) .1 not5)
+below-6 f r h not5 = below-more (λ m. broken f r m ≡ false) 5 (not-network f r h) (not-so (row-5 f r) .1 not5)
 
 pub span-missing-refused : (f : List ℕ) (r : ℕ) → 0 < r → r ≤ spansIn f → records f ≤ r → CleanBefore f r → reading f ≡ refused 5 r
 span-missing-refused f r h l missing = at-span f 5 r l (omega arith) (row-5 f r .1 (h, l, inl missing)) (not-network f r h)
@@ -170,7 +168,7 @@ mark-refused f r w not5 = at-span f 6 r (w .1) (omega arith) (row-6 f r .1 w) (b
 
 pub limit-above-refused : (f : List ℕ) (r : ℕ) → Row7 f r → (Row5 f r → ⊥) → (Row6 f r → ⊥) → CleanBefore f r → reading f ≡ refused 7 r
 limit-above-refused f r w not5 not6 =
-    at-span f 7 r (w .1) (omega arith) (row-7 f r .1 w) (one-more (broken f r) 6 (below-6 f r (w .0) not5) (not-so (row-6 f r) .1 not6))
+    at-span f 7 r (w .1) (omega arith) (row-7 f r .1 w) (below-more (λ m. broken f r m ≡ false) 6 (below-6 f r (w .0) not5) (not-so (row-6 f r) .1 not6))
 
 -- whatever else the file holds, before it or after it
 pub bad-span-unread : (f : List ℕ) (r : ℕ) → 0 < r → r ≤ spansIn f → (records f ≤ r) ⊎ (markIn f r ≡ 1 → ⊥) ⊎ (channelsIn f < limitIn f r) → (book : Book) → reading f ≡ done book → ⊥

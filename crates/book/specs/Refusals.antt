@@ -54,19 +54,29 @@ bIn f r = two f (start r + 6)
 unfoldable pub profitIn : List ℕ → ℕ → ℕ
 profitIn f r = four f (start r + 8)
 
+-- ---- the shapes (01, "What the desk plans")
+
+-- 1 is a line, 2 a ring, and there is no other
+unfoldable pub known : ℕ → Bool
+known shape = eqb shape 1 || eqb shape 2
+
+-- the fewest nodes: 2 on a line, 3 on a ring
+unfoldable pub fewest : ℕ → ℕ
+fewest shape = cond (eqb shape 2) 3 2
+
 -- ---- the rows
 
 -- 1: the byte count is 0, not a multiple of 16, or above 5,136
-unfoldable pub countWrong : List ℕ → Bool
-countWrong f = eqb (length f) 0 || not (eqb (length f % 16) 0) || ltb 5136 (length f)
+unfoldable pub countWrong : ℕ → Bool
+countWrong bytes = eqb bytes 0 || not (eqb (bytes % 16) 0) || ltb 5136 bytes
 
 -- 2: byte 0 or the shape is wrong, or bytes 6–15 not all 0
 unfoldable pub networkWrong : List ℕ → Bool
-networkWrong f = not (eqb (kindIn f 0) 1) || not (eqb (shapeIn f) 1 || eqb (shapeIn f) 2) || not (blank f 6 10)
+networkWrong f = not (eqb (kindIn f 0) 1) || not (known (shapeIn f)) || not (blank f 6 10)
 
 -- 3: nodes outside the range for the shape: 2 to 64 on a line, 3 to 64 on a ring
 unfoldable pub nodesWrong : List ℕ → Bool
-nodesWrong f = ltb (nodesIn f) (cond (eqb (shapeIn f) 2) 3 2) || ltb 64 (nodesIn f)
+nodesWrong f = ltb (nodesIn f) (fewest (shapeIn f)) || ltb 64 (nodesIn f)
 
 -- 4: k outside 1 to 96
 unfoldable pub channelsWrong : List ℕ → Bool
@@ -116,7 +126,7 @@ requestDue f r = ltb (spansIn f) r && ltb 0 r
 abbrev pub byKind : (network span request : Bool) → List ℕ → ℕ → List Bool
 byKind network span request f r =
     false
-    ∷ (network && countWrong f)
+    ∷ (network && countWrong (length f))
     ∷ (network && networkWrong f)
     ∷ (network && nodesWrong f)
     ∷ (network && channelsWrong f)

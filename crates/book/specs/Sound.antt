@@ -1,15 +1,16 @@
 -- What is known of every accepted book. A file that is read breaks no row at any record looked at; each field below is one row, in its words,
 -- not broken at the record that the field is read from. Assumes nothing.
 use mathlib.Core.Path.{_≡_, refl, sym, ap, subst, _∙_}
-use mathlib.Core.Bool.{false}
+use mathlib.Core.Bool.{Bool, true, false, cond}
 use mathlib.Core.List.{List}
 use mathlib.Core.Logic.{_⊎_, inl, inr, ⊎-elim}
 use Prim.Native.Nat.{ℕ, _+_, _-_, _≤_, _<_}
 use native.Mathlib.Omega.{arith}
 use lib.ListN.{length}
-use Rattle.sums.specs.Each.{same-or-not}
+use lib.Dec.{eqb}
+use Rattle.sums.specs.Each.{same-or-not, not-above}
 use Rattle.sums.specs.Table.{length-table, table-at}
-use Rattle.book.specs.Book.{Book, Request, spans, limit, count, request, endA, endB, profit}
+use Rattle.book.specs.Book.{Book, Request, spansOf, spans, limit, count, request, endA, endB, profit}
 use Rattle.book.specs.Refusals.{records, shapeIn, spansIn, limitIn, aIn, bIn, profitIn, broken}
 use Rattle.book.specs.Reading.{done, due, requestOf, bookOf, reading}
 use Rattle.book.specs.Laws.{span-looked-at, present-looked-at, read-clean}
@@ -32,11 +33,29 @@ pub record Sound (book : Book) : Type 0 where
   pub profit-from : (i : ℕ) → i < count book → 1 ≤ profit book i
   pub profit-upto : (i : ℕ) → i < count book → profit book i ≤ 1000000
 
--- ---- where the book's parts are read from
+-- ---- how many spans there can be: n − 1 or n, and so at most 64
 
-pub spans-read : (f : List ℕ) → spans (bookOf f) ≡ spansIn f
-unfolding bookOf spans spansIn
-spans-read f = refl
+pub spans-least : (shape nodes : ℕ) → nodes - 1 ≤ spansOf shape nodes
+unfolding spansOf
+spans-least shape nodes = by (eqb shape 2)
+  where
+    by : (t : Bool) → nodes - 1 ≤ cond t nodes (nodes - 1)
+    by true = omega arith
+    by false = omega arith
+
+pub spans-small : (shape nodes : ℕ) → spansOf shape nodes ≤ nodes
+unfolding spansOf
+spans-small shape nodes = by (eqb shape 2)
+  where
+    by : (t : Bool) → cond t nodes (nodes - 1) ≤ nodes
+    by true = omega arith
+    by false = omega arith
+
+pub few-spans : {book : Book} → Sound book → spans book ≤ 64
+unfolding spans
+few-spans {book} s = omega (arith, spans-small (book .shape) (book .nodes), s .nodes-upto)
+
+-- ---- where the book's parts are read from
 
 pub limit-read : (f : List ℕ) (s : ℕ) → s < spansIn f → limit (bookOf f) s ≡ limitIn f (1 + s)
 unfolding bookOf limit
@@ -68,9 +87,6 @@ module _ (f : List ℕ) (i : ℕ) (h : i < count (bookOf f)) where
   profit-read = ap (λ (q : Request). q .profit) (request-read f i h)
 
 -- ---- the rows that are not broken
-
-not-above : {a b : ℕ} → (b < a → ⊥) → a ≤ b
-not-above h = omega arith
 
 module _ (f : List ℕ) (clean : (r m : ℕ) → r < due f → m < 12 → broken f r m ≡ false) where
   of-network : (m : ℕ) → m < 12 → broken f 0 m ≡ false

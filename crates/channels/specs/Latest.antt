@@ -4,11 +4,12 @@ use mathlib.Core.Bool.{Bool}
 use mathlib.Core.List.{List}
 use mathlib.Core.Logic.{⊎-elim}
 use mathlib.Core.Path.{_≡_, refl, sym, _∙_}
-use Prim.Native.Nat.{ℕ, zero, suc, _≤_, _<_}
+use Prim.Native.Nat.{ℕ, _≤_, _<_}
 use native.Mathlib.Omega.{arith}
 use lib.ListN.{set, replicate, length, length-set}
 use lib.Seq.{getD-set-same, getD-set-other}
 use lib.Dec.{ltb}
+use Rattle.sums.specs.At.{zeros}
 use Rattle.sums.specs.Each.{same-or-not}
 use Rattle.channels.specs.HandOut.{at}
 
@@ -21,11 +22,6 @@ pub record Latest (count : ℕ) (hi channel ends : List ℕ) : Type 0 where
   pub long : length ends ≡ 128
   pub upto : (j : ℕ) → j < count → 0 < at channel j → at hi j ≤ at ends (at channel j)
   pub by : (c : ℕ) → 1 ≤ c → 0 < at ends c → (j : ℕ) × (j < count) × (at channel j ≡ c) × (at hi j ≡ at ends c)
-
-pub zeros : (n c : ℕ) → at (replicate n 0) c ≡ 0
-zeros zero c = refl
-zeros (suc n) zero = refl
-zeros (suc n) (suc c) = zeros n c
 
 -- with no channel given, no place is remembered
 pub latest-start : {count : ℕ} {hi channel : List ℕ} → ((j : ℕ) → j < count → at channel j ≡ 0) → Latest count hi channel (replicate 128 0)

@@ -1,15 +1,15 @@
 -- The turn of a kept one. A channel whose latest connection reaches past its first node is exactly one that a kept one before it holds which meets it:
 -- having a channel it comes before, and with a first cell no later, it meets if it reaches past that node. So the lowest free one is the rule's. Assumes nothing.
-use mathlib.Core.Bool.{Bool, true, false}
+use mathlib.Core.Bool.{Bool, true}
 use mathlib.Core.List.{List}
 use mathlib.Core.Logic.{⊎-elim}
-use mathlib.Core.Path.{_≡_, refl, sym, _∙_}
+use mathlib.Core.Path.{_≡_, sym, _∙_}
 use Prim.Native.Nat.{ℕ, _+_, _≤_, _<_}
 use native.Mathlib.Omega.{arith}
 use borrow.Author.Tests.{ltb-true, ltb-false, lt-ltb}
 use lib.ListN.{set, length-set}
 use lib.Seq.{getD-set-same, getD-set-other}
-use Rattle.sums.specs.Each.{some-of, both, less-or-not, same-or-not}
+use Rattle.sums.specs.Each.{some-of, both, same-test, less-or-not, same-or-not}
 use Rattle.sums.specs.Lowest.{lowestFree, lowest-from, lowest-free, lowest-ext}
 use Rattle.row.specs.Row.{Row, before, meet, heldBefore}
 use Rattle.row.specs.Channels.{Holder, held-by, held-of, Agree, rule-ext}
@@ -17,12 +17,6 @@ use Rattle.row.specs.Meets.{covers-of, meet-begins, before-cases, before-lo, be
 use Rattle.channels.specs.HandOut.{at, flag, rowOn}
 use Rattle.channels.specs.Latest.{heldPast, Latest, latest-given}
 use Rattle.channels.specs.Stages.{place, rule, Stage, rule-is, rule-upto}
-
--- two tests that pass together are equal
-alike : (s t : Bool) → (s ≡ true → t ≡ true) → (t ≡ true → s ≡ true) → s ≡ t
-alike true t to fro = sym (to refl)
-alike false true to fro = fro refl
-alike false false to fro = refl
 
 -- ---- number i is kept and begins at node v, whose turn it is
 
@@ -74,7 +68,7 @@ module _
 
     held-same : (c : ℕ) → 1 ≤ c → heldPast ends v c ≡ heldBefore row (flag kept) (at channel) i c
     held-same c from =
-        alike _ _ (λ h. past-before c from (ltb-true _ _ h))
+        same-test (λ h. past-before c from (ltb-true _ _ h))
         (λ h. let w = held-by row (flag kept) (at channel) i c h in lt-ltb _ _ (before-past c (w .0) from (w .1)))
 
     takes : lowestFree k (heldPast ends v) ≡ rule cells count k lo hi kept i

@@ -9,11 +9,11 @@ use native.Mathlib.Omega.{arith}
 use borrow.Author.Tests.{ltb-true}
 use lib.Dec.{ltb}
 use lib.ListN.{length}
-use Rattle.sums.specs.Each.{less-or-not}
+use Rattle.sums.specs.Each.{less-or-not, not-above}
 use Rattle.sums.specs.Sums.{when, bit, when-le, bit-le, Σ-most}
 use Rattle.book.specs.Book.{Book, isRing, spans, count, profit}
 use Rattle.book.specs.Bytes.{entryIn, priceIn}
-use Rattle.book.specs.Sound.{Sound, sound}
+use Rattle.book.specs.Sound.{Sound, sound, spans-small, few-spans}
 use Rattle.book.specs.Refusals.{records, spansIn, nodesIn, shapeIn}
 use Rattle.book.specs.Reading.{Outcome, done, refused, andThen, due, reading, refused-not-done}
 use Rattle.book.specs.Means.{less, same, not-so, and, or}
@@ -26,7 +26,7 @@ use Rattle.rules.specs.Operations.{placesShort, tooShort, tooDear, checking, ch
 use Rattle.rings.specs.Ring.{Ring}
 use Rattle.rings.specs.CutLine.{ring-spans}
 use Rattle.rings.specs.Choice.{cut-in}
-use Rattle.planner.specs.Cases.{spans-small, plannable-read, plannable-refused}
+use Rattle.planner.specs.Cases.{plannable-read, plannable-refused}
 use Rattle.planner.specs.Held.{line-shown, ring-shown}
 
 -- a number and a place that a refusal carries
@@ -48,8 +48,8 @@ given-small {file} {place} given = record { number-upto = omega (arith, given .i
     late l =
         let length-ok = not-so (row-1 file 0) .0 (given .before 0 1 (omega arith) (omega arith)) in
         let nodes-ok = not-so (row-3 file 0) .0 (given .before 0 3 (omega arith) (omega arith)) in
-        let short : length file ≤ 5136 = ⊎-elim (λ h. absurd (length-ok (refl, inr (inr h)))) (λ h. h) (less-or-not 5136 (length file)) in
-        let few : nodesIn file ≤ 64 = ⊎-elim (λ h. absurd (nodes-ok (refl, inr (inr h)))) (λ h. h) (less-or-not 64 (nodesIn file)) in
+        let short : length file ≤ 5136 = not-above (λ h. length-ok (refl, inr (inr h))) in
+        let few : nodesIn file ≤ 64 = not-above (λ h. nodes-ok (refl, inr (inr h))) in
         omega (arith, given .looked-at, spans-small (shapeIn file) (nodesIn file))
 
 -- the book's refusals and 12
@@ -84,8 +84,8 @@ unfolding placesShort
 not-short book entryPlaces pricePlaces e =
     let ok = not-so (or less (and same less)) .0 e in
     record {
-      entries = ⊎-elim (λ h. absurd (ok (inl h))) (λ h. h) (less-or-not entryPlaces (count book));
-      prices = λ l. ⊎-elim (λ h. absurd (ok (inr (l, h)))) (λ h. h) (less-or-not pricePlaces (spans book));
+      entries = not-above (λ h. ok (inl h));
+      prices = λ l. not-above (λ h. ok (inr (l, h)));
     }
 
 pub long-enough : (file : List ℕ) (entryPlaces pricePlaces : ℕ) (book : Book) → plannableIn file entryPlaces pricePlaces ≡ done book → LongEnough book entryPlaces pricePlaces
@@ -101,10 +101,10 @@ step {number} {place} false false true at verdict h e = let n : 13 ≡ number = 
 step false false false at verdict h e = absurd (refused-not-done (sym e))
 
 checking-small : (book : Book) → Sound book → (entries prices : List ℕ) (number place : ℕ) → checking book entries prices ≡ refused number place → SmallRefusal number place
-unfolding checking spans
+unfolding checking
 checking-small book sound entries prices number place e =
     step (isRing book) (tooShort book entries prices) (ltb (tooDear book (priceIn prices)) (spans book)) (tooDear book (priceIn prices)) (verdict book (entryIn entries) (priceIn prices))
-    (λ d. omega (arith, ltb-true (tooDear book (priceIn prices)) (spans book) d, spans-small (book .shape) (book .nodes), sound .nodes-upto))
+    (λ d. omega (arith, ltb-true (tooDear book (priceIn prices)) (spans book) d, few-spans sound))
     e
 
 pub checker-small : (file entries prices : List ℕ) (number place : ℕ) → checker file entries prices ≡ refused number place → SmallRefusal number place

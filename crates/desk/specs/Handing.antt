@@ -9,6 +9,7 @@ use Rattle.book.specs.Bytes.{entryPlaces, pricePlaces}
 use Rattle.book.specs.Book.{Book, spans}
 use Rattle.book.specs.Columns.{at}
 use Rattle.book.specs.Reading.{done, refused, refused-not-done}
+use Rattle.book.specs.Sound.{few-spans}
 use Rattle.rules.specs.Operations as O
 use Rattle.rules.specs.Operations.{plannable}
 use Rattle.print.specs.Fair.{fair-printable}
@@ -16,7 +17,7 @@ use Rattle.records.specs.declared.Refusal.{Refusal}
 use Rattle.planner.specs.declared.Answer.the-variants.{Planned, Refused}
 use Rattle.planner.specs.declared.BookPlan.{BookPlan}
 use Rattle.planner.specs.Promise.{PlanOf, BookPlanned}
-use Rattle.planner.specs.Cases.{spans-small, plan-answered, is-refused, is-planned, plan-holds}
+use Rattle.planner.specs.Cases.{plan-answered, is-refused, is-planned, plan-holds}
 use Rattle.desk.specs.Packing.{packedRefusal, packedPlan}
 use Rattle.desk.specs.Promise.{EntriesWritten, PricesWritten, Handed, PlanAnswer}
 use Rattle.desk.specs.Bounds.{SmallRefusal, SmallPlan, LongEnough, refusal-small, plan-small, long-enough}
@@ -70,11 +71,10 @@ module _ {file : List ℕ} (entries prices : List ℕ) {r : BookPlan} (made : Bo
         record { there = omega (arith, fair .many); room = omega (arith, plan .count-is, long .entries); whole = λ i h. omega (arith, fair .entry i h) }
 
     pub prices-fit : length (r .prices) ≡ 64 → r .shape ≡ 1 → Fit 4 (r .spans) (r .prices) prices
-    unfolding spans
     prices-fit all e =
         let on : book .shape ≡ 1 = omega (arith, plan .shape-is) in
         record {
-          there = omega (arith, plan .spans-is, plan .sound .nodes-upto, spans-small (book .shape) (book .nodes));
+          there = omega (arith, plan .spans-is, few-spans (plan .sound));
           room = omega (arith, plan .spans-is, long .prices on);
           whole = λ j h. omega (arith, plan .priced on .small j (omega (arith, plan .spans-is)));
         }

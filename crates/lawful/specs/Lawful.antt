@@ -1,6 +1,6 @@
 -- The rules on a line, by columns of numbers. An entry is formed by its numbers exactly when its request has the way that exists and a channel from
 -- 1 to k; then it goes that way, and crosses the spans between its two ends, as the columns of the plan have it. Assumes nothing.
-use mathlib.Core.Path.{_≡_, refl, sym, ap, _∙_}
+use mathlib.Core.Path.{_≡_, sym, ap, _∙_}
 use mathlib.Core.Bool.{Bool, Bool·not-not, true, false, _&&_}
 use mathlib.Core.List.{List}
 use mathlib.Core.Logic.{⊎-elim}
@@ -8,7 +8,7 @@ use Prim.Native.Nat.{ℕ, _/_, _≤_, _<_, min, max}
 use native.Mathlib.Omega.{arith}
 use borrow.Author.Tests.{eqb-true}
 use lib.Dec.{leb, ltb, eqb}
-use Rattle.sums.specs.Each.{each, each-at, each-of, decided, of-yes}
+use Rattle.sums.specs.Each.{each, each-at, each-of, decided, of-yes, same-test}
 use Rattle.sums.specs.Sums.{bit, when-le, when-upto, when-no, Σ-ext}
 use Rattle.sums.specs.Tests.{implied}
 use Rattle.book.specs.Bytes.{entryIn}
@@ -28,12 +28,6 @@ use Rattle.lawful.specs.Drawn.{Drawn, EndsBelow}
 use Rattle.lawful.specs.Entry.{formedAt, formedIn, PlanLaidOut}
 use Rattle.lawful.specs.Spans.{over, over-late, FairOn, FairSpans, CanSweep, Decides}
 use Rattle.lawful.specs.SpanBySpan.{formedOr, obeys-formed, obeys-on, on-obeys}
-
--- two tests that answer yes together answer alike
-same-answer : {s t : Bool} → (s ≡ true → t ≡ true) → (t ≡ true → s ≡ true) → s ≡ t
-same-answer {s = true} f g = sym (f refl)
-same-answer {s = false} {t = true} f g = g refl
-same-answer {s = false} {t = false} f g = refl
 
 -- the same requests, channels and limit, said in another way
 fair-as :
@@ -114,14 +108,14 @@ module _
 
     -- one entry of a wrong form is a no
     pub entries-break : {formed : Bool} → formed ≡ each count (formedIn channels a b entries) → formed ≡ false → false ≡ obeys book (entryIn entries)
-    entries-break is e = same-answer (λ f. absurd (of-yes f)) (λ o. sym e ∙ (is ∙ obeys-entries o))
+    entries-break is e = same-test (λ f. absurd (of-yes f)) (λ o. sym e ∙ (is ∙ obeys-entries o))
 
     -- else the spans decide
     pub spans-obey :
         {formed answer : Bool} {lo hi held : List ℕ} {crossing : List Bool}
         → formed ≡ each count (formedIn channels a b entries) → formed ≡ true → PlanLaidOut count a b (entryIn entries) lo hi crossing held
         → Decides answer (FairSpans spans limits count lo hi held) → answer ≡ obeys book (entryIn entries)
-    spans-obey {answer = answer} {lo} {hi} {held} is all laid-out d = same-answer sound whole
+    spans-obey {answer = answer} {lo} {hi} {held} is all laid-out d = same-test sound whole
       where
         plan : Plan
         plan = entryIn entries

@@ -11,11 +11,11 @@ use borrow.Author.Tests.{lt-ltb, le-ltb, lt-leb, le-leb, eq-eqb, ne-eqb}
 use lib.ListN.{set, replicate, length, length-set}
 use lib.Seq.{getD-set-same, getD-set-other}
 use lib.Dec.{leb, ltb, eqb}
+use Rattle.sums.specs.At.{zeros}
 use Rattle.sums.specs.Each.{less-or-not, same-or-not}
 use Rattle.sums.specs.Sums.{Σ, bit, bit-le, Σ-ext, Σ-add, Σ-most, Σ-zero}
 use Rattle.sums.specs.Turns.{Σ-more}
 use Rattle.book.specs.Columns.{at}
-use Rattle.channels.specs.Latest.{zeros}
 use Rattle.lawful.specs.Spans.{over, WithinSpans, Between}
 
 -- the first `count` of a column of nodes, counted by node

@@ -10,10 +10,9 @@ use native.Mathlib.Omega.{arith}
 use borrow.Author.Tests.{ltb-true, lt-ltb}
 use lib.ListN.{set, replicate, length, length-set}
 use lib.Seq.{getD-set-same, getD-set-other}
-use Rattle.sums.specs.At.{flag}
-use Rattle.sums.specs.Each.{less-or-not, same-or-not}
+use Rattle.sums.specs.At.{flag, zeros}
+use Rattle.sums.specs.Each.{less-or-not, same-or-not, not-above}
 use Rattle.book.specs.Columns.{at}
-use Rattle.channels.specs.Latest.{zeros}
 use Rattle.channels.specs.Lists.{CanList, Leads}
 use Rattle.channels.specs.Stages.{place, passed-over}
 use Rattle.lawful.specs.Spans.{over, over-yes, over-from, over-before, ApartSpans, CanSweep}
@@ -56,7 +55,7 @@ clash-not-apart l c apart =
     (λ (h : c .other ≤ c .one). apart .on _ l (c .one) (c .one-low) (c .other) (later h) (c .one-over) (c .other-over) (c .same)) (less-or-not (c .one) (c .other))
   where
     later : c .other ≤ c .one → c .other < c .one
-    later h = ⊎-elim (λ (g : c .other < c .one). g) (λ (g : c .one ≤ c .other). absurd (c .differ (omega arith))) (less-or-not (c .other) (c .one))
+    later h = not-above (λ g. c .differ (omega arith))
 
 module _ {count : ℕ} {lo hi : List ℕ} {crossing : List Bool} {channels : List ℕ} (can : CanSweep count lo hi crossing channels) where
   pub can-list : CanList count lo
@@ -156,7 +155,7 @@ module _ {count : ℕ} {lo hi : List ℕ} {crossing : List Bool} {channels : Lis
         older j ne h = record { low = h .low; real = h .real; early = less }
           where
             less : place (at lo j) j < place v i
-            less = ⊎-elim (λ g. g) (λ g. absurd (ne (omega (arith, h .early, h .low, can .between .count-upto)))) (less-or-not (place (at lo j) j) (place v i))
+            less = not-above (λ g. ne (omega (arith, h .early, h .low, can .between .count-upto)))
 
         newer : (j : ℕ) → Had count lo crossing v i j → Had count lo crossing v (i + 1) j
         newer j h = record { low = h .low; real = h .real; early = omega (arith, h .early) }

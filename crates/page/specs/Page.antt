@@ -2,7 +2,6 @@
 -- for every book, so 12 is never printed. Assumes nothing.
 use mathlib.Core.Bool.{Bool, false, cond, and-false}
 use mathlib.Core.List.{List}
-use mathlib.Core.Logic.{⊎-elim}
 use mathlib.Core.Path.{_≡_, refl, sym, ap, _∙_}
 use Prim.Native.Nat.{ℕ, _≤_}
 use native.Mathlib.Omega.{arith}
@@ -10,10 +9,10 @@ use borrow.Author.Tests.{le-ltb}
 use lib.ListN.{length, take, drop, length-take}
 use Rattle.sums.specs.Table.{table}
 use Rattle.book.specs.Book as Books
-use Rattle.book.specs.Book.{Book, isLine, spans, spansOf, profit}
+use Rattle.book.specs.Book.{Book, isLine, spans, profit}
 use Rattle.book.specs.Columns.{at}
 use Rattle.book.specs.Reading.{Outcome, done, refused, andThen, reading, refused-not-done}
-use Rattle.book.specs.Sound.{Sound, sound}
+use Rattle.book.specs.Sound.{Sound, sound, few-spans}
 use Rattle.rules.specs.Plans.{Plan}
 use Rattle.rules.specs.Operations as O
 use Rattle.rules.specs.Operations.{placesShort, plannableIn}
@@ -46,13 +45,9 @@ pub record Paged (file before out : List ℕ) (r : ℕ) : Type 0 where
 
 -- ---- the lists are long enough
 
-few-spans : (book : Book) → Sound book → spans book ≤ 64
-unfolding spans spansOf
-few-spans book s = ⊎-elim (λ e. rw e (omega (arith, s .nodes-upto))) (λ e. rw e (omega (arith, s .nodes-upto))) (s .shaped)
-
 never-short : (book : Book) → Sound book → placesShort book 256 64 ≡ false
 unfolding placesShort
-never-short book s = rw (le-ltb 256 (Books.count book) (s .count-upto), le-ltb 64 (spans book) (few-spans book s)) (and-false (isLine book))
+never-short book s = rw (le-ltb 256 (Books.count book) (s .count-upto), le-ltb 64 (spans book) (few-spans s)) (and-false (isLine book))
 
 plannable-is : (file : List ℕ) → plannableIn file 256 64 ≡ reading file
 unfolding plannableIn andThen

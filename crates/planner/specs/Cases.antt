@@ -1,15 +1,13 @@
 -- What a user of the planner concludes from its answer: a refusal is the one that the operations name, and a plan is a plan of the book in the file, whose
 -- requests stand in the columns handed back. Assumes nothing.
-use mathlib.Core.Bool.{Bool, true, false, cond}
 use mathlib.Core.List.{List}
 use mathlib.Core.Logic.{_⊎_, inl, inr, ⊎-elim}
 use mathlib.Core.Path.{_≡_, refl, sym, ap, ap₂, _∙_}
-use Prim.Native.Nat.{ℕ, _-_, _≤_}
+use Prim.Native.Nat.{ℕ}
 use native.Mathlib.Omega.{arith}
-use lib.Dec.{eqb}
 use Rattle.sums.specs.Each.{decided}
 use Rattle.sums.specs.Table.{table, table-at}
-use Rattle.book.specs.Book.{Book, spansOf, count, limit, profit}
+use Rattle.book.specs.Book.{Book, count, limit, profit}
 use Rattle.book.specs.Columns.{at, Holds}
 use Rattle.book.specs.Reading.{Outcome, done, refused, andThen, reading, refused-not-done}
 use Rattle.rules.specs.Operations as O
@@ -19,15 +17,6 @@ use Rattle.planner.specs.declared.Answer.{Answer}
 use Rattle.planner.specs.declared.Answer.the-variants.{Planned, Refused}
 use Rattle.planner.specs.declared.BookPlan.{BookPlan}
 use Rattle.planner.specs.Promise.{plannedOf, Refusing, PlanOf, BookPlanned}
-
--- a network has no more spans than nodes
-pub spans-small : (shape nodes : ℕ) → spansOf shape nodes ≤ nodes
-unfolding spansOf
-spans-small shape nodes = by (eqb shape 2)
-  where
-    by : (t : Bool) → cond t nodes (nodes - 1) ≤ nodes
-    by true = omega arith
-    by false = omega arith
 
 -- an answer that means a plan is that plan
 plan-is : (answer : Answer) {earned number cut : ℕ} → plannedOf answer ≡ done (earned, number, cut) → answer ≡ Planned earned number cut

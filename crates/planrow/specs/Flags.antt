@@ -1,6 +1,6 @@
 -- The chains follow the flags. A new candidate enters the chain of its flag; one that is turned round leaves one chain and enters the other; and no other
 -- candidate changes its chain. Assumes nothing.
-use mathlib.Core.Bool.{Bool, true, false, not}
+use mathlib.Core.Bool.{Bool, true, false, not, true≢false, false≢true}
 use mathlib.Core.List.{List}
 use mathlib.Core.Logic.{⊎-elim}
 use mathlib.Core.Path.{_≡_, refl, sym, ap, _∙_}
@@ -8,7 +8,7 @@ use Prim.Native.Nat.{ℕ, suc, _≤_, _<_}
 use native.Mathlib.Omega.{arith}
 use lib.ListN.{length, set}
 use lib.Seq.{getD-set-same, getD-set-other}
-use Rattle.sums.specs.Each.{of-yes, same-or-not}
+use Rattle.sums.specs.Each.{same-or-not}
 use Rattle.row.specs.Row.{Row}
 use Rattle.planrow.specs.State.{flag, Flagged, Chained, Links, links, Chains, CanTurn, TurnedRound}
 use Rattle.planrow.specs.Joining.{Joins, Moves, CanPutIn, CanTakeOut, Moved}
@@ -59,13 +59,6 @@ module _ (kept : List Bool) {t : ℕ} {side other : Bool} (apart : side ≡ othe
       outside = λ o. apart (sym (o .1) ∙ flag-here kept long);
     }
 
--- kept is not dropped
-pub true-false : true ≡ false → ⊥
-true-false q = of-yes (sym q)
-
-pub false-true : false ≡ true → ⊥
-false-true q = of-yes q
-
 -- ---- a candidate enters
 
 module _ {cells t : ℕ} {ends : ℕ → ℕ} {head next : List ℕ} (kept : List Bool) (side : Bool) (small : cells ≤ 127) (t-upto : t < 256) (node : ends t ≤ cells) (long : length kept ≡ 256)
@@ -93,10 +86,10 @@ module _ {cells t : ℕ} {ends : ℕ → ℕ} {head next : List ℕ} (kept : Lis
 -- the other chains are as they were
 module _ {cells t : ℕ} {lo hi : ℕ → ℕ} {kept kept′ : List Bool} {ls : Links} {head next : List ℕ} (long : t < length kept) (c : Chains cells t lo hi kept ls) where
   pub entered-kept : kept′ ≡ set kept t true → Chained cells (Flagged true (suc t) kept′) hi head next → Chains cells (suc t) lo hi kept′ (links (ls .headLo) (ls .nextLo) head next)
-  entered-kept is put = record { dropped = rw is (chained-same (same-new kept true) (λ i. new-same kept true-false i long) (c .dropped)); held = put }
+  entered-kept is put = record { dropped = rw is (chained-same (same-new kept true) (λ i. new-same kept true≢false i long) (c .dropped)); held = put }
 
   pub entered-dropped : kept′ ≡ set kept t false → Chained cells (Flagged false (suc t) kept′) lo head next → Chains cells (suc t) lo hi kept′ (links head next (ls .headHi) (ls .nextHi))
-  entered-dropped is put = record { dropped = put; held = rw is (chained-same (same-new kept false) (λ i. new-same kept false-true i long) (c .held)) }
+  entered-dropped is put = record { dropped = put; held = rw is (chained-same (same-new kept false) (λ i. new-same kept false≢true i long) (c .held)) }
 
 -- ---- a candidate is turned round
 
@@ -123,18 +116,18 @@ module _ {row : Row} {t e u v : ℕ} {kept : List Bool} {ls : Links} (w : CanTur
   -- from kept to dropped
   module _ (was : flag kept e ≡ true) where
     abbrev pub drop-out : CanTakeOut (ls .headHi) (ls .nextHi) u e
-    drop-out = (moves (row .hi) true false (w .near-in) (w .back was .0) (w .chains .held), turned-out kept true-false (w .candidate) place was)
+    drop-out = (moves (row .hi) true false (w .near-in) (w .back was .0) (w .chains .held), turned-out kept true≢false (w .candidate) place was)
 
     abbrev pub drop-in : CanPutIn (ls .headLo) (ls .nextLo) v e
-    drop-in = (moves (row .lo) false false (w .far-in) (w .back was .1) (w .chains .dropped), turned-in kept false-true (w .candidate) place was)
+    drop-in = (moves (row .lo) false false (w .far-in) (w .back was .1) (w .chains .dropped), turned-in kept false≢true (w .candidate) place was)
 
   -- from dropped to kept
   module _ (was : flag kept e ≡ false) where
     abbrev pub keep-out : CanTakeOut (ls .headLo) (ls .nextLo) u e
-    keep-out = (moves (row .lo) false true (w .near-in) (w .along was .0) (w .chains .dropped), turned-out kept false-true (w .candidate) place was)
+    keep-out = (moves (row .lo) false true (w .near-in) (w .along was .0) (w .chains .dropped), turned-out kept false≢true (w .candidate) place was)
 
     abbrev pub keep-in : CanPutIn (ls .headHi) (ls .nextHi) v e
-    keep-in = (moves (row .hi) true true (w .far-in) (w .along was .1) (w .chains .held), turned-in kept true-false (w .candidate) place was)
+    keep-in = (moves (row .hi) true true (w .far-in) (w .along was .1) (w .chains .held), turned-in kept true≢false (w .candidate) place was)
 
 module _ {kept : List Bool} {ls ls′ : Links} {e u v : ℕ} (long : length kept ≡ 256) where
   pub turned-dropped : flag kept e ≡ true → ((w : CanTakeOut (ls .headHi) (ls .nextHi) u e) → Moved (w .0) (ls′ .headHi) (ls′ .nextHi)) →

@@ -1,21 +1,21 @@
 -- The ways out of reading a book. A refused record is the first faulty one, since every record before it was got; where all were got, no record
 -- that is looked at is faulty. Assumes nothing.
 use mathlib.Core.Path.{_≡_, refl, ap, subst, _∙_}
-use mathlib.Core.Bool.{Bool, true, false, cond}
+use mathlib.Core.Bool.{true, false}
 use mathlib.Core.List.{List}
 use mathlib.Core.Logic.{inl, inr, ⊎-elim}
 use Prim.Native.Nat.{ℕ, _+_, _-_, _≤_, _<_}
 use native.Mathlib.Omega.{arith}
 use borrow.Author.Tests.{lt-ltb}
 use lib.ListN.{length, drop}
-use lib.Dec.{ltb, eqb}
-use Rattle.sums.specs.Each.{first-is, less-or-not, decided, of-yes}
-use Rattle.book.specs.Book.{spansOf}
+use lib.Dec.{ltb}
+use Rattle.sums.specs.Each.{first-is, less-or-not, not-above, decided, of-yes}
 use Rattle.book.specs.Refusals.{start, records, shapeIn, nodesIn, channelsIn, spansIn, fault, faulty}
 use Rattle.book.specs.Reading.{done, refused, due, bookOf, faultyRecord, reading}
 use Rattle.book.specs.Laws.{unbroken, clean-read, span-looked-at, present-looked-at}
 use Rattle.book.specs.Means.{not-so}
 use Rattle.book.specs.InWords.{Row3, Row5, row-3, row-5}
+use Rattle.book.specs.Sound.{spans-least, spans-small}
 use Rattle.records.specs.declared.Refusal.{Refusal}
 use Rattle.records.specs.declared.Reading.{Reading}
 use Rattle.records.specs.declared.Reading.the-variants.{Got, Refused}
@@ -66,15 +66,6 @@ pub got-network : (f : List ℕ) (got : Record) → networkRecordAt f ≡ Got go
 unfolding networkRecordAt
 got-network f got e = answer-got (networkRow f) 0 _ got e .1
 
--- a line and a ring of n nodes have n − 1 spans or n
-between : (shape n : ℕ) → (n - 1 ≤ spansOf shape n) × (spansOf shape n ≤ n)
-unfolding spansOf
-between shape n = by (eqb shape 2)
-  where
-    by : (t : Bool) → (n - 1 ≤ cond t n (n - 1)) × (cond t n (n - 1) ≤ n)
-    by true = (omega arith, omega arith)
-    by false = (omega arith, omega arith)
-
 -- what is known once the network was got
 pub record Headed (f : List ℕ) : Type 0 where
   pub clean : Clean f 1
@@ -86,8 +77,8 @@ unfolding networkRecordAt spansIn
 headed f got e =
     record {
       clean = λ q h. subst (λ (r : ℕ). faulty f r ≡ false) (omega arith) whole;
-      least = omega (arith, between (shapeIn f) (nodesIn f) .0, from);
-      most = omega (arith, between (shapeIn f) (nodesIn f) .1, upto);
+      least = omega (arith, spans-least (shapeIn f) (nodesIn f), from);
+      most = omega (arith, spans-small (shapeIn f) (nodesIn f), upto);
     }
   where
     whole : faulty f 0 ≡ false
@@ -97,10 +88,10 @@ headed f got e =
     not3 = not-so (row-3 f 0) .0 (unbroken f 0 whole 3 (omega arith))
 
     from : 2 ≤ nodesIn f
-    from = ⊎-elim (λ l. absurd (not3 (refl, inl l))) (λ l. l) (less-or-not (nodesIn f) 2)
+    from = not-above (λ l. not3 (refl, inl l))
 
     upto : nodesIn f ≤ 64
-    upto = ⊎-elim (λ l. absurd (not3 (refl, inr (inr l)))) (λ l. l) (less-or-not 64 (nodesIn f))
+    upto = not-above (λ l. not3 (refl, inr (inr l)))
 
 -- ---- the spans
 

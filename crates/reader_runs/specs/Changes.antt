@@ -10,7 +10,7 @@ use lib.Dec.{ltb}
 use Rattle.sums.specs.Each.{each, each-at, seek}
 use Rattle.book.specs.Bytes.{two, four, blank}
 use Rattle.book.specs.Book.{spansOf}
-use Rattle.book.specs.Refusals.{start, records, present, kindIn, markIn, numberIn, shapeIn, nodesIn, channelsIn, spansIn, limitIn, aIn, bIn, profitIn, countWrong, networkWrong, nodesWrong, channelsWrong, spanWrong, markWrong, limitWrong, tooMany, requestWrong, endsWrong, profitWrong, rows, fault}
+use Rattle.book.specs.Refusals.{start, records, present, kindIn, markIn, numberIn, shapeIn, nodesIn, channelsIn, spansIn, limitIn, aIn, bIn, profitIn, known, fewest, countWrong, networkWrong, nodesWrong, channelsWrong, spanWrong, markWrong, limitWrong, tooMany, requestWrong, endsWrong, profitWrong, rows, fault}
 use Rattle.book.specs.Reading.{due, faultyRecord, reading}
 use Rattle.reader_runs.specs.Told.{isRefused, isDone}
 
@@ -49,7 +49,7 @@ pub record ReadRight : Type 0 where
   pub change : (k : ℕ) → k < 21 → isRefused (reading (changed k)) (getD number k 0) (getD place k 0) ≡ true
 
 pub right : ReadRight
-unfolding isRefused isDone reading due faultyRecord fault rows seek each records start present kindIn markIn numberIn shapeIn nodesIn channelsIn spansIn limitIn aIn bIn profitIn countWrong networkWrong nodesWrong channelsWrong spanWrong markWrong limitWrong tooMany requestWrong endsWrong profitWrong two four blank spansOf
+unfolding isRefused isDone reading due faultyRecord fault rows seek each records start present kindIn markIn numberIn shapeIn nodesIn channelsIn spansIn limitIn aIn bIn profitIn known fewest countWrong networkWrong nodesWrong channelsWrong spanWrong markWrong limitWrong tooMany requestWrong endsWrong profitWrong two four blank spansOf
 right =
     record {
       whole = refl;

@@ -1,5 +1,5 @@
 -- When bytes are all 0: each of them is, and one that is not is enough against it. Assumes nothing.
-use mathlib.Core.Path.{_≡_, sym, _∙_}
+use mathlib.Core.Path.{_≡_}
 use mathlib.Core.Bool.{true, false}
 use mathlib.Core.List.{List}
 use mathlib.Core.Logic.{⊎-elim}
@@ -7,7 +7,7 @@ use Prim.Native.Nat.{ℕ, _+_, _*_, _<_}
 use native.Mathlib.Omega.{arith}
 use borrow.Author.Tests.{eqb-true, eq-eqb}
 use lib.Dec.{eqb}
-use Rattle.sums.specs.Each.{each-at, each-of, decided, of-yes, same-or-not, fails}
+use Rattle.sums.specs.Each.{each-at, each-of, same-or-not, fails, same-test}
 use Rattle.book.specs.Bytes.{byte, two, four, blank}
 
 pub all-blank : (f : List ℕ) (at n : ℕ) → ((i : ℕ) → i < n → byte f (at + i) ≡ 0) → blank f at n ≡ true
@@ -41,6 +41,4 @@ module _ (f : List ℕ) (at : ℕ) where
   pub four-is-blank : eqb (four f at) 0 ≡ blank f at 4
   unfolding blank
   four-is-blank =
-      ⊎-elim (λ e. eq-eqb (four f at) 0 (sum (λ i l. eqb-true _ 0 (each-at 4 (λ i. eqb (byte f (at + i)) 0) e i l))) ∙ sym e)
-      (λ e. ⊎-elim (λ t. absurd (of-yes (sym e ∙ all-blank f at 4 (zeros (eqb-true _ 0 t))))) (λ n. n ∙ sym e) (decided (eqb (four f at) 0)))
-      (decided (blank f at 4))
+      same-test (λ e. all-blank f at 4 (zeros (eqb-true _ 0 e))) (λ e. eq-eqb (four f at) 0 (sum (λ i l. eqb-true _ 0 (each-at 4 (λ i. eqb (byte f (at + i)) 0) e i l))))

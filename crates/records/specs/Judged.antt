@@ -1,29 +1,25 @@
 -- The tests of one record, from its fields and from what they must agree with: a line for each clause of its rows in document 01's table, lowest
 -- row first. Assumes nothing.
 use mathlib.Core.Path.{_≡_}
-use mathlib.Core.Bool.{Bool, true, false, not, _||_}
+use mathlib.Core.Bool.{Bool, true, false, not}
 use mathlib.Core.List.{List, [], _∷_}
 use mathlib.Core.Logic.{_⊎_, inl, inr, ⊎-elim}
 use Prim.Native.Nat.{ℕ, _%_, _<_, _≤_}
 use native.Mathlib.Omega.{arith}
 use borrow.Author.Tests.{lt-ltb, le-ltb, eq-eqb, ne-eqb}
 use lib.Dec.{ltb, eqb}
-use Rattle.sums.specs.Each.{less-or-not, same-or-not}
+use Rattle.sums.specs.Each.{same-or-not, not-above}
+use Rattle.book.specs.Refusals.{known, fewest, countWrong}
 use Rattle.book.specs.Means as M
 use Rattle.records.specs.declared.Network.{Network}
 use Rattle.records.specs.declared.Span.{Span}
 use Rattle.records.specs.declared.Request.{Request}
 use Rattle.records.specs.Tests.{Test, _⇒_, found, passed, none}
-use Rattle.records.specs.Shapes.{known, fewest}
 
--- row 1, by the byte count
-unfoldable pub wrongCount : ℕ → Bool
-wrongCount bytes = eqb bytes 0 || not (eqb (bytes % 16) 0) || ltb 5136 bytes
-
--- so a right count is that of one record or more
-pub one-record : (bytes : ℕ) → wrongCount bytes ≡ false → 16 ≤ bytes
-unfolding wrongCount
-one-record bytes e = ⊎-elim (λ h. absurd (right (few h))) (λ h. h) (less-or-not bytes 16)
+-- a right byte count is that of one record or more
+pub one-record : (bytes : ℕ) → countWrong bytes ≡ false → 16 ≤ bytes
+unfolding countWrong
+one-record bytes e = not-above (λ h. right (few h))
   where
     right : (bytes ≡ 0) ⊎ (bytes % 16 ≡ 0 → ⊥) ⊎ (5136 < bytes) → ⊥
     right = M.not-so (M.or₃ M.same (M.is-not M.same) M.less) .0 e

@@ -1,5 +1,4 @@
 pub mod Blank
-pub mod Shapes
 pub mod Tests
 pub mod Judged
 pub mod Records

@@ -10,7 +10,7 @@ use lib.ListN.{length}
 use lib.Dec.{ltb}
 use Rattle.sums.specs.Each.{decided}
 use Rattle.book.specs.Bytes.{byte, two, blank}
-use Rattle.book.specs.Refusals.{start, present, kindIn, markIn, numberIn, shapeIn, nodesIn, channelsIn, limitIn, aIn, bIn, profitIn}
+use Rattle.book.specs.Refusals.{start, present, kindIn, markIn, numberIn, shapeIn, nodesIn, channelsIn, limitIn, aIn, bIn, profitIn, countWrong}
 use Rattle.records.specs.declared.Refusal.{Refusal}
 use Rattle.records.specs.declared.Reading.{Reading}
 use Rattle.records.specs.declared.Reading.the-variants.{Got, Refused}
@@ -21,7 +21,7 @@ use Rattle.records.specs.declared.Span.{Span}
 use Rattle.records.specs.declared.Request.{Request}
 use Rattle.records.specs.declared.Head.{Head}
 use Rattle.records.specs.Tests.{Test, _⇒_, lowest}
-use Rattle.records.specs.Judged.{wrongCount, networkTests, spanTests, requestTests}
+use Rattle.records.specs.Judged.{networkTests, spanTests, requestTests}
 
 -- what a record of any kind begins with, at an offset: the fields that a kind has there are these (`kindIn`, `markIn`, `numberIn`, ..)
 abbrev pub headAt : List ℕ → ℕ → Head
@@ -73,7 +73,7 @@ abbrev pub networkIn : List ℕ → Network
 networkIn f = record { shape = shapeIn f; nodes = nodesIn f; channels = channelsIn f }
 
 unfoldable pub networkRow : List ℕ → ℕ
-networkRow f = lowest ((wrongCount (length f) ⇒ 1) ∷ networkTests (kindIn f 0) (networkIn f) (blank f 6 10))
+networkRow f = lowest ((countWrong (length f) ⇒ 1) ∷ networkTests (kindIn f 0) (networkIn f) (blank f 6 10))
 
 unfoldable pub networkRecordAt : List ℕ → Reading
 networkRecordAt f = answer (networkRow f) 0 (kind.Network (networkIn f))

@@ -7,14 +7,13 @@ use mathlib.Core.Logic.{⊎-elim}
 use Prim.Native.Nat.{ℕ, _+_, _-_, _≤_, _<_}
 use native.Mathlib.Omega.{arith}
 use borrow.Author.Tests.{lt-ltb, le-ltb, le-leb, lt-leb, ne-eqb}
-use lib.ListN.{getD, drop}
+use lib.ListN.{length, getD, drop}
 use lib.Dec.{ltb, eqb}
 use Rattle.sums.specs.Each.{seek, first, less-or-not}
 use Rattle.book.specs.Bytes.{blank}
-use Rattle.book.specs.Refusals.{start, present, kindIn, markIn, nodesIn, channelsIn, spansIn, aIn, profitIn, countWrong, networkWrong, nodesWrong, channelsWrong, spanWrong, markWrong, limitWrong, tooMany, requestWrong, endsWrong, profitWrong, networkDue, spanDue, requestDue, byKind, rows, fault}
+use Rattle.book.specs.Refusals.{start, present, kindIn, markIn, nodesIn, channelsIn, spansIn, aIn, profitIn, known, fewest, countWrong, networkWrong, nodesWrong, channelsWrong, spanWrong, markWrong, limitWrong, tooMany, requestWrong, endsWrong, profitWrong, networkDue, spanDue, requestDue, byKind, rows, fault}
 use Rattle.records.specs.Tests.{_⇒_, lowest, joined, joined₃, joined₄, behind}
-use Rattle.records.specs.Judged.{wrongCount, requestTests}
-use Rattle.records.specs.Shapes.{known, fewest}
+use Rattle.records.specs.Judged.{requestTests}
 use Rattle.records.specs.Parts.{kind-part, mark-part, number-part, a-part, b-part, profit-part, rest-part}
 use Rattle.records.specs.Records.{requestIn, networkRow, spanRow, requestRow}
 
@@ -28,11 +27,11 @@ fault-by : (f : List ℕ) (r : ℕ) → fault f r ≡ rowBy (networkDue f r) (sp
 unfolding fault rows rowBy
 fault-by f r = refl
 
-network-rows : (f : List ℕ) → rowBy true false false f 0 ≡ lowest ((countWrong f ⇒ 1) ∷ (networkWrong f ⇒ 2) ∷ (nodesWrong f ⇒ 3) ∷ (channelsWrong f ⇒ 4) ∷ [])
+network-rows : (f : List ℕ) → rowBy true false false f 0 ≡ lowest ((countWrong (length f) ⇒ 1) ∷ (networkWrong f ⇒ 2) ∷ (nodesWrong f ⇒ 3) ∷ (channelsWrong f ⇒ 4) ∷ [])
 unfolding rowBy seek lowest
 network-rows f = refl
 
-network-fault : (f : List ℕ) → fault f 0 ≡ lowest ((countWrong f ⇒ 1) ∷ (networkWrong f ⇒ 2) ∷ (nodesWrong f ⇒ 3) ∷ (channelsWrong f ⇒ 4) ∷ [])
+network-fault : (f : List ℕ) → fault f 0 ≡ lowest ((countWrong (length f) ⇒ 1) ∷ (networkWrong f ⇒ 2) ∷ (nodesWrong f ⇒ 3) ∷ (channelsWrong f ⇒ 4) ∷ [])
 network-fault f = fault-by f 0 ∙ rw (le-ltb (spansIn f) 0 (omega arith)) (network-rows f)
 
 span-rows : (f : List ℕ) (r : ℕ) → rowBy false true false f r ≡ lowest ((spanWrong f r ⇒ 5) ∷ (markWrong f r ⇒ 6) ∷ (limitWrong f r ⇒ 7) ∷ [])
@@ -56,9 +55,9 @@ unfolding spanRow spanWrong markWrong limitWrong
 span-row f r h l = joined₄ (not (present f r)) _ _ _ 5 _ ∙ sym (span-fault f r h l)
 
 pub network-row : (f : List ℕ) → networkRow f ≡ fault f 0
-unfolding networkRow wrongCount countWrong networkWrong nodesWrong channelsWrong known fewest
+unfolding networkRow countWrong networkWrong nodesWrong channelsWrong known fewest
 network-row f =
-    behind (countWrong f) 1 _ _
+    behind (countWrong (length f)) 1 _ _
     (joined₃ (not (eqb (kindIn f 0) 1)) _ _ 2 _
     ∙ behind _ 2 _ _ (joined (ltb (nodesIn f) _) _ 3 _ ∙ behind _ 3 _ _ (joined (eqb (channelsIn f) 0) _ 4 [])))
     ∙ sym (network-fault f)

@@ -1,6 +1,7 @@
 // Judging one record by its fields, which are numbers: a test for each clause of document 01's rows 2 to 11, lowest row first. The answer is the
 // row, or 12 where the record breaks none.
 ghost use mathlib.Core.Path.{_≡_};
+ghost use Rattle.book.specs.Refusals.{countWrong};
 ghost use Rattle.records.specs.Tests.{lowest};
 ghost use Rattle.records.specs.Judged as J;
 use crate::Network;
@@ -10,7 +11,7 @@ use crate::shapes;
 
 // Row 1: the byte count is 0, not a multiple of 16, or above 5,136.
 pub fn count_wrong(bytes: usize) -> bool
-    ensures { λ r. ⌜ r ≡ J.wrongCount bytes ⌝ }
+    ensures { λ r. ⌜ r ≡ countWrong bytes ⌝ }
 {
     if bytes == 0 {
         return true;

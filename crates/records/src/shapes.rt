@@ -1,18 +1,18 @@
 // The shapes of a network (document 01, "What the desk plans"): 1 is a line, 2 a ring.
 ghost use mathlib.Core.Path.{_≡_};
 ghost use Rattle.book.specs.Book.{spansOf};
-ghost use Rattle.records.specs.Shapes as S;
+ghost use Rattle.book.specs.Refusals as R;
 
 // Whether there is such a shape.
 pub fn known(shape: usize) -> bool
-    ensures { λ r. ⌜ r ≡ S.known shape ⌝ }
+    ensures { λ r. ⌜ r ≡ R.known shape ⌝ }
 {
     shape == 1 || shape == 2
 }
 
 // The fewest nodes that it may have.
 pub fn fewest(shape: usize) -> usize
-    ensures { λ r. ⌜ r ≡ S.fewest shape ⌝ }
+    ensures { λ r. ⌜ r ≡ R.fewest shape ⌝ }
 {
     if shape == 2 {
         return 3;

@@ -2,11 +2,12 @@
 -- Assumes nothing.
 use mathlib.Core.List.{List}
 use mathlib.Core.Logic.{⊎-elim}
-use mathlib.Core.Path.{_≡_, refl, sym, ap, _∙_}
-use Prim.Native.Nat.{ℕ, zero, suc, _+_, _-_, _≤_, _<_}
+use mathlib.Core.Path.{_≡_, sym, ap, _∙_}
+use Prim.Native.Nat.{ℕ, _+_, _-_, _≤_, _<_}
 use native.Mathlib.Omega.{arith}
 use lib.ListN.{length, set, replicate}
 use lib.Seq.{getD-set-same, getD-set-other}
+use Rattle.sums.specs.At.{zeros}
 use Rattle.sums.specs.Each.{same-or-not}
 use Rattle.sums.specs.Filled.{Filled}
 use Rattle.book.specs.Columns.{at}
@@ -20,13 +21,8 @@ use Rattle.ring.specs.Promise.{CanPlanRing}
 use Rattle.ring.specs.Turned.{cut-plannable, cut-best}
 
 -- no prices yet
-no-price : (n s : ℕ) → at (replicate n 0) s ≡ 0
-no-price zero s = refl
-no-price (suc n) zero = refl
-no-price (suc n) (suc s) = no-price n s
-
 pub low-none : LowPrices (replicate 64 0)
-low-none = record { upto = λ s. omega (arith, no-price 64 s) }
+low-none = record { upto = λ s. omega (arith, zeros 64 s) }
 
 -- one price more that is not too high
 pub low-more : {prices : List ℕ} {j v : ℕ} → j < length prices → v ≤ 1000000 → LowPrices prices → LowPrices (set prices j v)

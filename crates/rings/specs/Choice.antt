@@ -1,12 +1,11 @@
 -- The cut reported is the lowest-numbered span whose line has the greatest best earnings, and there is just one such span. Assumes nothing.
 use mathlib.Core.Path.{_≡_, sym, _∙_}
 use mathlib.Core.Bool.{Bool, true, false}
-use mathlib.Core.Logic.{⊎-elim}
 use Prim.Native.Nat.{ℕ, _≤_, _<_}
 use native.Mathlib.Omega.{arith}
 use borrow.Author.Tests.{leb-true, leb-false, le-leb}
 use lib.Dec.{leb}
-use Rattle.sums.specs.Each.{each, each-at, each-of, each-breaks, Sought, sought, first-is, less-or-not, of-yes, fails}
+use Rattle.sums.specs.Each.{each, each-at, each-of, each-breaks, Sought, sought, first-is, not-above, of-yes, fails}
 use Rattle.sums.specs.Greatest.{greatest}
 use Rattle.book.specs.Book.{Book, spans}
 use Rattle.rules.specs.Cuts.{cutBest, cut}
@@ -41,7 +40,7 @@ module _ {book : Book} (on : Ring book) where
   pub cut-in : cut book < spans book
   cut-in =
       let w = greatest (spans book) (cutBest book) (omega (arith, ring-spans on, on .sound .nodes-from)) in
-      ⊎-elim (λ l. l) (λ l. absurd (of-yes (sym (found .passed (w .0) (omega arith) (omega (arith, w .1 .below))) ∙ tops-of book (w .0) (w .1 .most)))) (less-or-not (cut book) (spans book))
+      not-above (λ l. of-yes (sym (found .passed (w .0) (omega arith) (omega (arith, w .1 .below))) ∙ tops-of book (w .0) (w .1 .most)))
 
   pub cut-chosen : LowestBestCut book (cut book)
   cut-chosen =

@@ -1,13 +1,13 @@
 -- A way crosses a span of the ring, the cut apart, exactly when it crosses that span's place on the line which the cut leaves, and it never crosses the cut.
 -- Going up the ring from u to v without passing the cut is going up the line between their places. Assumes nothing.
 use mathlib.Core.Path.{_≡_, refl, sym, ap, _∙_}
-use mathlib.Core.Bool.{Bool, true, false, _&&_, _||_, cond, or-false}
+use mathlib.Core.Bool.{true, false, _&&_, _||_, cond, or-false}
 use mathlib.Core.Logic.{_⊎_, inl, inr, ⊎-elim}
 use Prim.Native.Nat.{ℕ, _+_, _≤_, _<_}
 use native.Mathlib.Omega.{arith}
 use borrow.Author.Tests.{lt-ltb, le-ltb, eqb-true}
 use lib.Dec.{leb, ltb}
-use Rattle.sums.specs.Each.{less-or-not, decided, fails}
+use Rattle.sums.specs.Each.{less-or-not, fails, same-test}
 use Rattle.book.specs.Means.{less, at-most, and, or}
 use Rattle.book.specs.Book.{Book, spans, count, endA, endB}
 use Rattle.rules.specs.Ways.{upward, crosses, wayExists, wayFrom, lineWay}
@@ -42,10 +42,6 @@ upward-is u v s e = ⊎-elim ahead round (less-or-not u v)
 is-upward : (u v s : ℕ) → Up u v s → upward u v s ≡ true
 is-upward u v s (inl w) = upward-ahead u v s (w .0) ∙ and at-most less .1 (w .1, w .2)
 is-upward u v s (inr w) = upward-round u v s (w .0) ∙ or at-most less .1 (w .1)
-
--- two tests that pass together are the same
-same-test : {s t : Bool} → (s ≡ true → t ≡ true) → (t ≡ true → s ≡ true) → s ≡ t
-same-test {s} {t} f g = ⊎-elim (λ e. e ∙ sym (f e)) (λ e. ⊎-elim (λ h. g h ∙ sym h) (λ h. e ∙ sym h) (decided t)) (decided s)
 
 -- ---- going up the ring and up the line, by places p, q and r of u, v and s
 

@@ -1,7 +1,7 @@
 -- Every ℤ is two naturals, one of them 0: how far it lies above 0 and how far below, z = up z − dn z.
--- A sum, a difference and a negative have their parts from the parts of what they are made of, and two ℤ with the same parts crosswise are
--- the same; so an equation over ℤ becomes one over ℕ, which omega proves. Assumes nothing.
-use mathlib.Core.Path.{_≡_, refl, ap}
+-- A sum, a difference and a negative have their parts from the parts of what they are made of; so what is said over ℤ is said over ℕ, where omega
+-- proves it. Assumes nothing.
+use mathlib.Core.Path.{_≡_, refl}
 use mathlib.Core.Bool.{Bool, true, false, cond}
 use Prim.Native.Nat.{ℕ, zero, suc, _+_, _-_, _≤_, min}
 use native.Mathlib.Omega.{arith}
@@ -75,10 +75,3 @@ abs (negsuc n) = omega arith
 pub not-below : (z : ℤ) → dn z ≡ 0 → T (nonNeg z)
 not-below (pos n) h = tt
 not-below (negsuc n) h = absurd (omega arith)
-
--- the way to prove an equation over ℤ: `eq-of a b (omega (arith, sum x y, dif x y))`
-pub eq-of : (a b : ℤ) → up a + dn b ≡ up b + dn a → a ≡ b
-eq-of (pos a) (pos b) h = let e : a ≡ b = omega arith in ap pos e
-eq-of (pos a) (negsuc b) h = absurd (omega arith)
-eq-of (negsuc a) (pos b) h = absurd (omega arith)
-eq-of (negsuc a) (negsuc b) h = let e : a ≡ b = omega arith in ap negsuc e

@@ -29,10 +29,6 @@ abbrev pub first : ℕ → (ℕ → Bool) → ℕ
 first n f = seek n 0 f
 
 -- a test and its equations
-pub yes-of : {t : Bool} → T t → t ≡ true
-yes-of {t = true} h = refl
-yes-of {t = false} h = absurd h
-
 pub of-yes : {t : Bool} → t ≡ true → T t
 of-yes e = subst T (sym e) tt
 
@@ -69,9 +65,17 @@ decided false = inr refl
 pub fails : {t : Bool} → (t ≡ true → ⊥) → t ≡ false
 fails {t} h = ⊎-elim (λ e. absurd (h e)) (λ e. e) (decided t)
 
+-- two tests that pass together are the same
+pub same-test : {s t : Bool} → (s ≡ true → t ≡ true) → (t ≡ true → s ≡ true) → s ≡ t
+same-test {s} {t} f g = ⊎-elim (λ e. e ∙ sym (f e)) (λ e. e ∙ sym (fails (λ h. of-yes (sym e ∙ g h)))) (decided s)
+
 -- two numbers compared
 pub less-or-not : (a b : ℕ) → (a < b) ⊎ (b ≤ a)
 less-or-not a b = ⊎-elim (λ e. inl (ltb-true a b e)) (λ e. inr (ltb-false a b e)) (decided (ltb a b))
+
+-- what is not above another is at most it
+pub not-above : {a b : ℕ} → (b < a → ⊥) → a ≤ b
+not-above h = omega arith
 
 pub same-or-not : (a b : ℕ) → (a ≡ b) ⊎ (a ≡ b → ⊥)
 same-or-not a b = ⊎-elim (λ e. inl (eqb-true a b e)) (λ e. inr (eqb-false a b e)) (decided (eqb a b))

@@ -2,11 +2,10 @@
 -- that fails settles a test over all of them, as the first that passes settles a search. Assumes nothing.
 use mathlib.Core.Path.{_≡_, sym, _∙_}
 use mathlib.Core.Bool.{Bool, true, false}
-use mathlib.Core.Logic.{⊎-elim}
 use Prim.Native.Nat.{ℕ, _+_, _≤_, _<_}
 use native.Mathlib.Omega.{arith}
 use native.Mathlib.Numerals.{add-one}
-use Rattle.sums.specs.Each.{each, each-at, first, first-is, decided, of-yes}
+use Rattle.sums.specs.Each.{each, each-at, first, first-is, fails, of-yes}
 use Rattle.sums.specs.Sums.{Σ}
 
 pub Σ-more : (n : ℕ) (f : ℕ → ℕ) → Σ (n + 1) f ≡ Σ n f + f n
@@ -14,7 +13,7 @@ unfolding Σ
 Σ-more n f = rw add-one
 
 pub each-fails : (n : ℕ) (f : ℕ → Bool) (i : ℕ) → i < n → f i ≡ false → each n f ≡ false
-each-fails n f i l e = ⊎-elim (λ all. absurd (of-yes (sym e ∙ each-at n f all i l))) (λ no. no) (decided (each n f))
+each-fails n f i l e = fails (λ all. of-yes (sym e ∙ each-at n f all i l))
 
 -- nothing before i passes, and i passes or is the end
 pub first-here : (n : ℕ) (f : ℕ → Bool) (i : ℕ) → i ≤ n → ((k : ℕ) → k < i → f k ≡ false) → (i < n → f i ≡ true) → first n f ≡ i

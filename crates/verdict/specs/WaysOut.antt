@@ -3,12 +3,11 @@
 use mathlib.Core.Path.{_≡_}
 use mathlib.Core.Bool.{Bool, true, false, _||_}
 use mathlib.Core.List.{List}
-use mathlib.Core.Logic.{⊎-elim}
 use Prim.Native.Nat.{ℕ, _≤_, _<_}
 use native.Mathlib.Omega.{arith}
 use borrow.Author.Tests.{ltb-true, ltb-false, lt-ltb, le-ltb, eq-eqb}
 use lib.Dec.{ltb}
-use Rattle.sums.specs.Each.{first, sought, less-or-not}
+use Rattle.sums.specs.Each.{first, sought, not-above}
 use Rattle.book.specs.Bytes.{entryPlaces, pricePlaces, entryIn, priceIn}
 use Rattle.book.specs.Book.{Book, spans, count}
 use Rattle.book.specs.Reading.{Outcome, done, refused, andThen, reading}
@@ -62,7 +61,7 @@ module _ (book : Book) (prices : List ℕ) where
 
   pub none-dear : ((s : ℕ) → s < spans book → priceIn prices s ≤ 1000000) → spans book ≤ tooDear book (priceIn prices)
   unfolding tooDear
-  none-dear low = ⊎-elim (λ l. absurd (clash l)) (λ l. l) (less-or-not (tooDear book (priceIn prices)) (spans book))
+  none-dear low = not-above clash
     where
       dear : ℕ → Bool
       dear s = ltb 1000000 (priceIn prices s)

@@ -1,10 +1,10 @@
 -- `columns::columns` meets its contract, by a walk of its code: each turn copies request i out of the lent list and stores its numbers, so that the
 -- columns have the first i requests. The three arrays are rows of elements while the loop runs, and whole before and after it. Assumes nothing.
-use mathlib.Core.Path.{_≡_, refl, sym, ap, subst}
+use mathlib.Core.Path.{_≡_, refl, sym, subst}
 use Prim.Native.Nat.{ℕ, zero, suc, _+_, _-_, _*_, _≤_, _<_, _^_}
 use native.Mathlib.Omega.{arith}
 use mathlib.Core.WellFounded.{WellFounded, InvImage·wf}
-use mathlib.Core.List.{List, [], _∷_, map}
+use mathlib.Core.List.{List, [], _∷_, map, map-id}
 use lib.Dec.{ltb→lt, nltb→le, lit<}
 use lib.ListN.{length, set, replicate, length-replicate}
 use lib.WfN.{Nat·lt-wfRel}
@@ -99,10 +99,6 @@ vals = array-vals (uint-vals w64)
 
 abbrev val : List ℕ → Val
 val xs = only (vals xs)
-
-same : (xs : List ℕ) → map (λ (x : ℕ). x) xs ≡ xs
-same [] = refl
-same (x ∷ xs) = ap (λ (zs : List ℕ). x ∷ zs) (same xs)
 
 -- n zeros, as the machine has them
 abbrev zeros : ℕ → Val
@@ -261,11 +257,11 @@ module _ {M : Type 1} (𝓤 : URA M) (H : Heap 𝓤) (A : Atoms 𝓤) (W : Given
 
         -- a struct's field has the list as its elements' values, one by one
         one-by-one : (xs : List ℕ) → Is (Array usize 256) xs (vals xs) → Is (Array usize 256) (map (λ x. x) xs) (vals (map (λ x. x) xs))
-        one-by-one xs is = subst (λ (zs : List ℕ). Is (Array usize 256) zs (vals zs)) (sym (same xs)) is
+        one-by-one xs is = subst (λ (zs : List ℕ). Is (Array usize 256) zs (vals zs)) (sym (map-id xs)) is
 
         is-made : Is (Array usize 256) a (vals a) → Is (Array usize 256) b (vals b) → Is (Array usize 256) profit (vals profit) → Is K.the-row made (u ∷ [])
         is-made is-a is-b is-profit =
-            subst (λ (us : List Val). Is K.the-row made us) (λ j. vstruct (ofList (val (same a j) ∷ val (same b j) ∷ val (same profit j) ∷ [])) ∷ []) (LL.owes K.the-type K′.the-laws made (one-by-one a is-a, (one-by-one b is-b, (one-by-one profit is-profit, tt))))
+            subst (λ (us : List Val). Is K.the-row made us) (λ j. vstruct (ofList (val (map-id a j) ∷ val (map-id b j) ∷ val (map-id profit j) ∷ [])) ∷ []) (LL.owes K.the-type K′.the-laws made (one-by-one a is-a, (one-by-one b is-b, (one-by-one profit is-profit, tt))))
 
     -- what a turn stores lies in the columns, and its offsets fit
     inside : (x : Upto) → x .0 < n → (x .0 < length (x .1)) × (x .0 < length (x .2)) × (x .0 < length (x .3))

@@ -1,6 +1,6 @@
 -- `records::shapes::fewest` meets its contract: a ring has 3 nodes or more. Assumes nothing.
 use borrow.Author.Tests.{eq-eqb, ne-eqb}
-use Rattle.records.specs.Shapes.{fewest}
+use Rattle.book.specs.Refusals.{fewest}
 use Rattle.records.proofs.shapes.fewest.Statement.{statement}
 use Rattle.records.proofs.shapes.fewest.Tie as tie
 

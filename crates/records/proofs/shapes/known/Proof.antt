@@ -1,6 +1,6 @@
 -- `records::shapes::known` meets its contract: where the shape is 1 it is known, and else it is where it is 2. Assumes nothing.
 use borrow.Author.Tests.{eq-eqb, ne-eqb}
-use Rattle.records.specs.Shapes.{known}
+use Rattle.book.specs.Refusals.{known}
 use Rattle.records.proofs.shapes.known.Statement.{statement}
 use Rattle.records.proofs.shapes.known.Tie as tie
 
