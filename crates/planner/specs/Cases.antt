@@ -1,5 +1,6 @@
 -- What a user of the planner concludes from its answer: a refusal is the one that the operations name, and a plan is a plan of the book in the file, whose
 -- requests stand in the columns handed back. Assumes nothing.
+use mathlib.Core.Bool.{false, cond}
 use mathlib.Core.List.{List}
 use mathlib.Core.Logic.{_⊎_, inl, inr, ⊎-elim}
 use mathlib.Core.Path.{_≡_, refl, sym, ap, ap₂, _∙_}
