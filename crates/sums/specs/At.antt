@@ -11,8 +11,11 @@ at xs i = getD xs i 0
 abbrev pub flag : List Bool → ℕ → Bool
 flag xs i = getD xs i false
 
--- in a list of zeros it is 0 everywhere
-pub zeros : (n c : ℕ) → at (replicate n 0) c ≡ 0
-zeros zero c = refl
-zeros (suc n) zero = refl
-zeros (suc n) (suc c) = zeros n c
+-- in a new list, whose places all hold d, it is d everywhere
+pub fresh : {A : Type 0} (d : A) (n i : ℕ) → getD (replicate n d) i d ≡ d
+fresh d zero i = refl
+fresh d (suc n) zero = refl
+fresh d (suc n) (suc i) = fresh d n i
+
+pub zeros : (n i : ℕ) → at (replicate n 0) i ≡ 0
+zeros = fresh 0

@@ -8,5 +8,6 @@ pub mod Greatest
 pub mod At
 pub mod Between
 pub mod Filled
+pub mod Vacant
 pub mod Turns
 pub mod Permuted

@@ -1,0 +1,33 @@
+-- A list that is filled from the front up to place n and holds nothing from there on: a new array, and one with stores below n. Two that are alike below n are
+-- the same list. Assumes nothing.
+use mathlib.Core.Path.{_≡_, sym, _∙_}
+use mathlib.Core.List.{List}
+use mathlib.Core.Logic.{⊎-elim}
+use Prim.Native.Nat.{ℕ, _+_, _≤_, _<_}
+use native.Mathlib.Omega.{arith}
+use lib.ListN.{length, getD, set, replicate, length-set, length-replicate}
+use lib.Seq.{getD-set-other, ext-getD}
+use Rattle.sums.specs.At.{fresh}
+use Rattle.sums.specs.Each.{less-or-not}
+
+pub record Vacant {A : Type 0} (empty : A) (n places : ℕ) (xs : List A) : Type 0 where
+  pub long : length xs ≡ places
+  pub none : (i : ℕ) → n ≤ i → getD xs i empty ≡ empty
+
+pub vacant-new : {A : Type 0} (empty : A) (n places : ℕ) → Vacant empty n places (replicate places empty)
+vacant-new empty n places = record { long = length-replicate places empty; none = λ i h. fresh empty places i }
+
+module _ {A : Type 0} {empty : A} {n places : ℕ} {xs : List A} (was : Vacant empty n places xs) where
+  -- a store below n
+  pub vacant-set : (k : ℕ) (v : A) → k < n → Vacant empty n places (set xs k v)
+  vacant-set k v l = record { long = length-set xs k v ∙ was .long; none = λ i h. getD-set-other xs k i v empty (λ q. omega arith) ∙ was .none i h }
+
+  pub vacant-later : {m : ℕ} → n ≤ m → Vacant empty m places xs
+  vacant-later l = record { long = was .long; none = λ i h. was .none i (omega arith) }
+
+  pub vacant-same : {ys : List A} → Vacant empty n places ys → ((i : ℕ) → i < n → getD xs i empty ≡ getD ys i empty) → xs ≡ ys
+  vacant-same {ys} other same = ext-getD empty xs ys (was .long ∙ sym (other .long)) (λ i _. ⊎-elim (same i) (λ h. was .none i h ∙ sym (other .none i h)) (less-or-not i n))
+
+-- a store at the next place
+pub vacant-more : {A : Type 0} {empty : A} {n places : ℕ} {xs : List A} → Vacant empty n places xs → (v : A) → Vacant empty (n + 1) places (set xs n v)
+vacant-more {n} was v = vacant-set (vacant-later was (omega arith)) n v (omega arith)
