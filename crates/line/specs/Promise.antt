@@ -13,10 +13,14 @@ use Rattle.line.specs.declared.Solved.{Solved}
 use Rattle.line.specs.declared.Solved.the-variants.{Planned}
 
 -- the columns hold a line's accepted book; it has one span less than nodes
-pub record CanPlanLine (nodes channels count : ℕ) (limits a b profits : List ℕ) : Type 0 where
+pub record LineColumns (nodes count : ℕ) (limits a b profits : List ℕ) : Type 0 where
   pub book : Book
   pub held : HeldLine book (nodes - 1) count limits a b profits
-  pub channels-is : channels ≡ book .channels
+
+-- and these are its channels
+pub record CanPlanLine (nodes channels count : ℕ) (limits a b profits : List ℕ) : Type 0 where
+  pub columns : LineColumns nodes count limits a b profits
+  pub channels-is : channels ≡ columns .book .channels
 
 -- A best plan with the channels of the rule; earnings and number kept are sums over its entries; prices up to 1,000,000 at which the checker accepts it.
 -- Refusal 15 is never the answer.

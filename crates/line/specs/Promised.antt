@@ -30,13 +30,13 @@ use Rattle.channels.specs.declared.Given.{Given}
 use Rattle.cells.specs.Steps.{CanSolve, Solves, Falling, prices-of}
 use Rattle.cells.specs.Solving.{real-intervals}
 use Rattle.line.specs.declared.Solved.the-variants.{Planned}
-use Rattle.line.specs.Promise.{CanPlanLine, LinePlanned}
+use Rattle.line.specs.Promise.{LineColumns, LinePlanned}
 use Rattle.line.specs.Steps.{Channels, Entered, sumOf, numberOf}
 use Rattle.line.specs.AsRow.{same-intervals, same-row}
 use Rattle.line.specs.Certified.{Certified, certified, certified-yes, earns-best}
 use Rattle.line.specs.Written.{keeps-are, goes-its-way, channels-are, sum-is, number-is}
 
-module _ {nodes k count : ℕ} {limits a b profits : List ℕ} (w : CanPlanLine nodes k count limits a b profits) where
+module _ {nodes count : ℕ} {limits a b profits : List ℕ} (w : LineColumns nodes count limits a b profits) where
   cells-are : nodes - 1 ≡ spans (w .book)
   cells-are = w .held .spans-is
 
@@ -83,29 +83,29 @@ module _ {nodes k count : ℕ} {limits a b profits : List ℕ} (w : CanPlanLine 
         };
       }
 
-      pub can-hand-out : CanHandOut (nodes - 1) count k lo hi keeps
+      pub can-hand-out : {k : ℕ} → k ≡ w .book .channels → CanHandOut (nodes - 1) count k lo hi keeps
       unfolding rowOf
-      can-hand-out =
+      can-hand-out its =
           let real = real-intervals can-solve (s .candidates) in
           record {
             cells-upto = omega (arith, can-solve .cells-upto);
             count-upto = can-solve .profits-are .few;
-            k-upto = omega (arith, w .channels-is, w .held .line .sound .channels-upto);
+            k-upto = omega (arith, its, w .held .line .sound .channels-upto);
             proper = record { some-cell = real .some-cell; in-row = real .in-row };
             fits = λ j l.
                 let h : j < spans (w .book) = omega (arith, cells-are) in
                 omega (
                   arith,
-                  w .channels-is,
+                  its,
                   load-same over {x = flag keeps} {x′ = flag keeps} (λ i l. refl) j,
                   stands {x = flag keeps} {y = prices-of dist} (λ i l. refl) (λ i l. refl) .within .holds j h,
                   w .held .line .sound .limit-upto j h,
                 );
           }
 
-      module _ {given : Given} {channels : List ℕ} (h : HandedOut (nodes - 1) count k lo hi keeps given channels) where
+      module _ {k : ℕ} (its : k ≡ w .book .channels) {given : Given} {channels : List ℕ} (h : HandedOut (nodes - 1) count k lo hi keeps given channels) where
         pub channels-small : Channels count channels
-        channels-small = record { few = can-solve .profits-are .few; upto = λ i l. omega (arith, h .upto i l, can-hand-out .k-upto) }
+        channels-small = record { few = can-solve .profits-are .few; upto = λ i l. omega (arith, h .upto i l, can-hand-out its .k-upto) }
 
         -- ---- entries and prices as they are written
 
@@ -122,7 +122,7 @@ module _ {nodes k count : ℕ} {limits a b profits : List ℕ} (w : CanPlanLine 
           rule : byRule (w .book) (at entries) ≡ true
           rule =
               ruled-rule (w .held .line) laid
-              (subst (λ (n : ℕ). Ruled (rowOf (w .book)) n (kept (at entries)) (channel (at entries))) (w .channels-is)
+              (subst (λ (n : ℕ). Ruled (rowOf (w .book)) n (kept (at entries)) (channel (at entries))) its
               (ruled-same over same-set k (channels-are (w .held .holds) channels-small e) (h .ruled)))
 
           fair : obeys (w .book) (at entries) ≡ true

@@ -6,7 +6,7 @@ ghost use mathlib.Core.Path.{_≡_};
 ghost use Prim.Native.Nat.{_-_};
 ghost use Rattle.rules.specs.Best.{best};
 ghost use Rattle.cells.specs.Placing.{OneToOne, LowPrices};
-ghost use Rattle.line.specs.Promise.{CanPlanLine, LinePlanned};
+ghost use Rattle.line.specs.Promise.{LineColumns, CanPlanLine, LinePlanned};
 use channels::Given;
 
 // What planning a line comes to: what it earns and how many are kept, or the request for which no channel was left (refusal 15).
@@ -25,7 +25,6 @@ pub struct LinePlan {
 // The most that any plan on this line earns. The price of each cell goes to its place in `prices`.
 pub fn best_earnings(
     nodes: usize,
-    channels: usize,
     count: usize,
     limits: &[usize; 64],
     a: &[usize; 256],
@@ -34,9 +33,9 @@ pub fn best_earnings(
     place: &[usize; 128],
     prices: &mut [usize; 64],
 ) -> usize
-    requires { ⌜ CanPlanLine nodes channels count (now limits) (now a) (now b) (now profit) ⌝ }
+    requires { ⌜ LineColumns nodes count (now limits) (now a) (now b) (now profit) ⌝ }
     requires { ⌜ OneToOne (nodes - 1) (now place) (now prices) ⌝ }
-    ensures { λ r. ⌜ ((w : CanPlanLine nodes channels count (now (limits .entry)) (now (a .entry)) (now (b .entry)) (now (profit .entry))) → r ≡ best (w .book)) ⌝ }
+    ensures { λ r. ⌜ ((w : LineColumns nodes count (now (limits .entry)) (now (a .entry)) (now (b .entry)) (now (profit .entry))) → r ≡ best (w .book)) ⌝ }
     ensures { λ r. ⌜ (LowPrices (now (prices .entry)) → LowPrices (now (prices .exit))) ⌝ }
 {
     let mut lo = [0usize; 256];
@@ -71,7 +70,7 @@ pub fn plan_line(
     profit: &[usize; 256],
 ) -> LinePlan
     requires { ⌜ CanPlanLine nodes channels count (now limits) (now a) (now b) (now profit) ⌝ }
-    ensures { λ r. ⌜ ((w : CanPlanLine nodes channels count (now (limits .entry)) (now (a .entry)) (now (b .entry)) (now (profit .entry))) → LinePlanned (w .book) (r .answer) (r .entries) (r .prices)) ⌝ }
+    ensures { λ r. ⌜ ((w : CanPlanLine nodes channels count (now (limits .entry)) (now (a .entry)) (now (b .entry)) (now (profit .entry))) → LinePlanned (w .columns .book) (r .answer) (r .entries) (r .prices)) ⌝ }
 {
     let mut lo = [0usize; 256];
     let mut hi = [0usize; 256];

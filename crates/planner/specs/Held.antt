@@ -65,8 +65,7 @@ abbrev pub held-line :
     {net : Network} {n : ℕ} {limits a b profits : List ℕ} → net .shape ≡ 1 → HeldBook net n limits a b profits → CanPlanLine (net .nodes) (net .channels) n limits a b profits
 held-line e held =
     record {
-      book = held .book;
-      held = line-held (record { line = held .shape-is ∙ e; sound = held .sound }) (sym (held .nodes-is)) (held .holds);
+      columns = record { book = held .book; held = line-held (record { line = held .shape-is ∙ e; sound = held .sound }) (sym (held .nodes-is)) (held .holds) };
       channels-is = sym (held .channels-is);
     }
 
@@ -74,11 +73,13 @@ abbrev pub held-ring :
     {net : Network} {n : ℕ} {limits a b profits : List ℕ} → (net .shape ≡ 1 → ⊥) → HeldBook net n limits a b profits → CanPlanRing (net .nodes) (net .channels) n limits a b profits
 held-ring other held =
     record {
-      book = held .book;
-      ring = record { ring = ⊎-elim (λ e. absurd (other (sym (held .shape-is) ∙ e))) (λ e. e) (held .sound .shaped); sound = held .sound };
-      nodes-is = sym (held .nodes-is);
+      columns = record {
+        book = held .book;
+        ring = record { ring = ⊎-elim (λ e. absurd (other (sym (held .shape-is) ∙ e))) (λ e. e) (held .sound .shaped); sound = held .sound };
+        nodes-is = sym (held .nodes-is);
+        holds = held .holds;
+      };
       channels-is = sym (held .channels-is);
-      holds = held .holds;
     }
 
 -- a refusal, with zeros beside it
@@ -131,7 +132,7 @@ module _ {net : Network} {n : ℕ} {limits a b profits : List ℕ} (held : HeldB
 
   pub on-line : net .shape ≡ 1 → LinePlanned (held .book) solved entries prices → answer ≡ answered solved 65535 → PlanOf (held .book) (beside net n a b (record { answer = answer; entries = entries; prices = prices }))
   on-line e made says =
-      let line = held-line e held .held .line .line in
+      let line = held-line e held .columns .held .line .line in
       plan-of (made .says) says
       (record {
         fair = made .best-plan .fair;
@@ -147,7 +148,7 @@ module _ {net : Network} {n : ℕ} {limits a b profits : List ℕ} (held : HeldB
       {shown : ℕ} → (net .shape ≡ 1 → ⊥) → RingPlanned (held .book) solved shown entries → answer ≡ answered solved shown
       → PlanOf (held .book) (beside net n a b (record { answer = answer; entries = entries; prices = prices }))
   on-ring other made says =
-      let ring = held-ring other held .ring .ring in
+      let ring = held-ring other held .columns .ring .ring in
       plan-of (made .says) says
       (record {
         fair = made .fair;

@@ -17,8 +17,8 @@ use Rattle.rings.specs.Turn.{span-below, place-of-span}
 use Rattle.ceiling.specs.PricedLine.{PricedLine}
 use Rattle.ceiling.specs.Above.{best-upto-ceiling}
 use Rattle.cells.specs.Placing.{OneToOne, LowPrices}
-use Rattle.ring.specs.Promise.{CanPlanRing}
-use Rattle.ring.specs.Turned.{cut-plannable, cut-best}
+use Rattle.ring.specs.Promise.{RingColumns}
+use Rattle.ring.specs.Turned.{cut-columns, cut-best}
 
 -- no prices yet
 pub low-none : LowPrices (replicate 64 0)
@@ -43,7 +43,7 @@ ring-places {nodes} {j} cut few map long = record {
       sym (place-of-span nodes j cut t (omega arith)) ∙ ap (steps nodes (j + 1)) (sym (map .is t l) ∙ q ∙ map .is u h) ∙ place-of-span nodes j cut u (omega arith);
 }
 
-module _ {nodes channels count : ℕ} {limits a b profits : List ℕ} (w : CanPlanRing nodes channels count limits a b profits) (j : ℕ) (cut : j < nodes)
+module _ {nodes count : ℕ} {limits a b profits : List ℕ} (w : RingColumns nodes count limits a b profits) (j : ℕ) (cut : j < nodes)
     {limits′ a′ b′ prices known : List ℕ}
     (turned : Filled (λ t. at limits (spanAt nodes j t)) (nodes - 1) limits′) (from : Filled (λ i. steps nodes (j + 1) (at a i)) count a′)
     (to : Filled (λ i. steps nodes (j + 1) (at b i)) count b′) (priced : Filled (λ t. at known (spanAt nodes j t)) (nodes - 1) prices)
@@ -51,7 +51,7 @@ module _ {nodes channels count : ℕ} {limits a b profits : List ℕ} (w : CanPl
   where
     pub cut-priced : PricedLine (nodes - 1) count limits′ a′ b′ profits prices
     cut-priced =
-        let v = cut-plannable w j cut turned from to in
+        let v = cut-columns w j cut turned from to in
         record {
           book = v .book;
           held = v .held;
@@ -61,5 +61,5 @@ module _ {nodes channels count : ℕ} {limits a b profits : List ℕ} (w : CanPl
     pub cut-bounded : {r : ℕ} → ((v : PricedLine (nodes - 1) count limits′ a′ b′ profits prices) → r ≡ ceiling (v .book) (at prices)) → cutBest (w .book) j ≤ r
     unfolding cut-priced
     cut-bounded says =
-        let v = cut-plannable w j cut turned from to in
+        let v = cut-columns w j cut turned from to in
         omega (arith, cut-best w j cut turned from to, says cut-priced, best-upto-ceiling (v .held .line) (at prices))

@@ -14,12 +14,16 @@ use Rattle.line.specs.declared.Solved.{Solved}
 use Rattle.line.specs.declared.Solved.the-variants.{Planned}
 
 -- the columns hold a ring's accepted book
-pub record CanPlanRing (nodes channels count : ℕ) (limits a b profits : List ℕ) : Type 0 where
+pub record RingColumns (nodes count : ℕ) (limits a b profits : List ℕ) : Type 0 where
   pub book : Book
   pub ring : Ring book
   pub nodes-is : nodes ≡ book .nodes
-  pub channels-is : channels ≡ book .channels
   pub holds : Holds book count limits a b profits
+
+-- and these are its channels
+pub record CanPlanRing (nodes channels count : ℕ) (limits a b profits : List ℕ) : Type 0 where
+  pub columns : RingColumns nodes count limits a b profits
+  pub channels-is : channels ≡ columns .book .channels
 
 -- The cut is the lowest-numbered span whose line has the greatest best earnings; the plan is best on that line, with its channels, and obeys the ring's own
 -- rules; earnings and number kept are sums over its entries. Refusal 15 is never the answer.

@@ -20,10 +20,10 @@ use Rattle.rings.specs.TurnedColumns.{turned-holds}
 use Rattle.turn.specs.Nodes.{Nodes}
 use Rattle.line.specs.declared.Solved.{Solved}
 use Rattle.line.specs.declared.Solved.the-variants.{Planned}
-use Rattle.line.specs.Promise.{CanPlanLine, LinePlanned}
-use Rattle.ring.specs.Promise.{CanPlanRing, RingPlanned}
+use Rattle.line.specs.Promise.{LineColumns, CanPlanLine, LinePlanned}
+use Rattle.ring.specs.Promise.{RingColumns, RingPlanned}
 
-module _ {nodes channels count : ℕ} {limits a b profits : List ℕ} (w : CanPlanRing nodes channels count limits a b profits) where
+module _ {nodes count : ℕ} {limits a b profits : List ℕ} (w : RingColumns nodes count limits a b profits) where
   pub few-nodes : nodes ≤ 64
   few-nodes = omega (arith, w .nodes-is, w .ring .sound .nodes-upto)
 
@@ -51,28 +51,34 @@ module _ {nodes channels count : ℕ} {limits a b profits : List ℕ} (w : CanPl
           (λ i l. subst (λ (n : ℕ). at a′ i ≡ steps n (j + 1) (at a i)) (w .nodes-is) (from .is i l))
           (λ i l. subst (λ (n : ℕ). at b′ i ≡ steps n (j + 1) (at b i)) (w .nodes-is) (to .is i l))
 
-      pub cut-plannable : CanPlanLine nodes channels count limits′ a′ b′ profits
+      pub cut-columns : LineColumns nodes count limits′ a′ b′ profits
       unfolding cutLine
-      cut-plannable =
+      cut-columns =
           record {
             book = cutLine (w .book) j;
             held = line-held (cut-line (w .ring) j (omega (arith, w .nodes-is, ring-spans (w .ring)))) (w .nodes-is) turned-line;
-            channels-is = w .channels-is;
           }
 
-      pub cut-best : cutBest (w .book) j ≡ best (cut-plannable .book)
-      unfolding cut-plannable cutBest
+      pub cut-best : cutBest (w .book) j ≡ best (cut-columns .book)
+      unfolding cut-columns cutBest
       cut-best = refl
 
       -- what the line planner says of the turned columns, it says of the cut's line
-      pub cut-earned : {r : ℕ} → ((v : CanPlanLine nodes channels count limits′ a′ b′ profits) → r ≡ best (v .book)) → r ≡ cutBest (w .book) j
-      unfolding cut-plannable cutBest
-      cut-earned says = says cut-plannable
+      pub cut-earned : {r : ℕ} → ((v : LineColumns nodes count limits′ a′ b′ profits) → r ≡ best (v .book)) → r ≡ cutBest (w .book) j
+      unfolding cut-columns cutBest
+      cut-earned says = says cut-columns
 
-      pub cut-planned : {answer : Solved} {entries prices : List ℕ} → ((v : CanPlanLine nodes channels count limits′ a′ b′ profits) → LinePlanned (v .book) answer entries prices) → j ≡ Cuts.cut (w .book) → RingPlanned (w .book) answer j entries
-      unfolding cut-plannable
-      cut-planned {answer} {entries} says chosen =
-          let p : LinePlanned (cutLine (w .book) j) answer entries _ = says cut-plannable in
+      -- with the ring's channels
+      pub cut-plannable : {channels : ℕ} → channels ≡ w .book .channels → CanPlanLine nodes channels count limits′ a′ b′ profits
+      unfolding cut-columns cutLine
+      cut-plannable its = record { columns = cut-columns; channels-is = its }
+
+      pub cut-planned :
+          {channels : ℕ} {answer : Solved} {entries prices : List ℕ} → channels ≡ w .book .channels
+          → ((v : CanPlanLine nodes channels count limits′ a′ b′ profits) → LinePlanned (v .columns .book) answer entries prices) → j ≡ Cuts.cut (w .book) → RingPlanned (w .book) answer j entries
+      unfolding cut-columns cut-plannable
+      cut-planned {answer} {entries} its says chosen =
+          let p : LinePlanned (cutLine (w .book) j) answer entries _ = says (cut-plannable its) in
           record {
             says = p .says ∙ ap₂ Planned (F.cut-earnings (w .ring) j (at entries)) (F.cut-number (w .ring) j (at entries));
             cut-is = chosen;

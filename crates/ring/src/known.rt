@@ -4,7 +4,7 @@ ghost use Prim.Native.Nat.{_-_, _≤_, _<_, max};
 ghost use Rattle.sums.specs.Filled.{Filled};
 ghost use Rattle.rules.specs.Best.{best};
 ghost use Rattle.rules.specs.Cuts.{spanAt};
-ghost use Rattle.line.specs.Promise.{CanPlanLine};
+ghost use Rattle.line.specs.Promise.{LineColumns};
 ghost use Rattle.cells.specs.Placing.{LowPrices};
 
 pub fn higher(x: usize, y: usize) -> usize
@@ -47,7 +47,6 @@ fn bridge(nodes: usize, j: usize, known: &mut [usize; 64])
 pub fn best_earnings(
     j: usize,
     nodes: usize,
-    channels: usize,
     count: usize,
     limits: &[usize; 64],
     a: &[usize; 256],
@@ -55,16 +54,16 @@ pub fn best_earnings(
     profit: &[usize; 256],
     known: &mut [usize; 64],
 ) -> usize
-    requires { ⌜ CanPlanLine nodes channels count (now limits) (now a) (now b) (now profit) ⌝ }
+    requires { ⌜ LineColumns nodes count (now limits) (now a) (now b) (now profit) ⌝ }
     requires { ⌜ (j < nodes) × (3 ≤ nodes) × (nodes ≤ 64) × LowPrices (now known) ⌝ }
-    ensures { λ r. ⌜ ((w : CanPlanLine nodes channels count (now (limits .entry)) (now (a .entry)) (now (b .entry)) (now (profit .entry))) → r ≡ best (w .book)) ⌝ }
+    ensures { λ r. ⌜ ((w : LineColumns nodes count (now (limits .entry)) (now (a .entry)) (now (b .entry)) (now (profit .entry))) → r ≡ best (w .book)) ⌝ }
     ensures { λ r. ⌜ LowPrices (now (known .exit)) ⌝ }
 {
     // the whole array, so that its length is known
     let all = &known[..];
     let mut place = [0usize; 128];
     places(nodes, j, &mut place);
-    let earned = line::best_earnings(nodes, channels, count, limits, a, b, profit, &place, known);
+    let earned = line::best_earnings(nodes, count, limits, a, b, profit, &place, known);
     bridge(nodes, j, known);
     earned
 }

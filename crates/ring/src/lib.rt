@@ -6,7 +6,7 @@ ghost use mathlib.Core.Path.{_≡_};
 ghost use Prim.Native.Nat.{_≤_, _<_, max};
 ghost use Rattle.rules.specs.Cuts.{cut, cutBest};
 ghost use Rattle.cells.specs.Placing.{LowPrices};
-ghost use Rattle.ring.specs.Promise.{CanPlanRing, RingPlanned};
+ghost use Rattle.ring.specs.Promise.{RingColumns, CanPlanRing, RingPlanned};
 
 // The answer, the cut, and an entry for each request: those of the plan of the line which the cut leaves.
 pub struct RingPlan {
@@ -19,7 +19,6 @@ pub struct RingPlan {
 fn cut_ceiling(
     j: usize,
     nodes: usize,
-    channels: usize,
     count: usize,
     limits: &[usize; 64],
     a: &[usize; 256],
@@ -27,9 +26,9 @@ fn cut_ceiling(
     profit: &[usize; 256],
     known: &[usize; 64],
 ) -> usize
-    requires { ⌜ CanPlanRing nodes channels count (now limits) (now a) (now b) (now profit) ⌝ }
+    requires { ⌜ RingColumns nodes count (now limits) (now a) (now b) (now profit) ⌝ }
     requires { ⌜ (j < nodes) × LowPrices (now known) ⌝ }
-    ensures { λ r. ⌜ ((w : CanPlanRing nodes channels count (now (limits .entry)) (now (a .entry)) (now (b .entry)) (now (profit .entry))) → cutBest (w .book) j ≤ r) ⌝ }
+    ensures { λ r. ⌜ ((w : RingColumns nodes count (now (limits .entry)) (now (a .entry)) (now (b .entry)) (now (profit .entry))) → cutBest (w .book) j ≤ r) ⌝ }
 {
     let mut turned = [0usize; 64];
     let mut from = [0usize; 256];
@@ -46,7 +45,6 @@ fn cut_ceiling(
 fn cut_earnings(
     j: usize,
     nodes: usize,
-    channels: usize,
     count: usize,
     limits: &[usize; 64],
     a: &[usize; 256],
@@ -54,9 +52,9 @@ fn cut_earnings(
     profit: &[usize; 256],
     known: &mut [usize; 64],
 ) -> usize
-    requires { ⌜ CanPlanRing nodes channels count (now limits) (now a) (now b) (now profit) ⌝ }
+    requires { ⌜ RingColumns nodes count (now limits) (now a) (now b) (now profit) ⌝ }
     requires { ⌜ (j < nodes) × LowPrices (now known) ⌝ }
-    ensures { λ r. ⌜ ((w : CanPlanRing nodes channels count (now (limits .entry)) (now (a .entry)) (now (b .entry)) (now (profit .entry))) → r ≡ cutBest (w .book) j) ⌝ }
+    ensures { λ r. ⌜ ((w : RingColumns nodes count (now (limits .entry)) (now (a .entry)) (now (b .entry)) (now (profit .entry))) → r ≡ cutBest (w .book) j) ⌝ }
     ensures { λ r. ⌜ LowPrices (now (known .exit)) ⌝ }
 {
     let mut limit = [0usize; 64];
@@ -65,7 +63,7 @@ fn cut_earnings(
     turn::turn_limits(nodes, j, limits, &mut limit);
     turn::turn_ends(nodes, j, count, a, &mut from);
     turn::turn_ends(nodes, j, count, b, &mut to);
-    known::best_earnings(j, nodes, channels, count, &limit, &from, &to, profit, known)
+    known::best_earnings(j, nodes, count, &limit, &from, &to, profit, known)
 }
 
 // The higher of `top` and what the line which cut j leaves can earn. Where even its ceiling is not above `top`, that line is not planned.
@@ -73,7 +71,6 @@ fn raised(
     top: usize,
     j: usize,
     nodes: usize,
-    channels: usize,
     count: usize,
     limits: &[usize; 64],
     a: &[usize; 256],
@@ -81,49 +78,37 @@ fn raised(
     profit: &[usize; 256],
     known: &mut [usize; 64],
 ) -> usize
-    requires { ⌜ CanPlanRing nodes channels count (now limits) (now a) (now b) (now profit) ⌝ }
+    requires { ⌜ RingColumns nodes count (now limits) (now a) (now b) (now profit) ⌝ }
     requires { ⌜ (j < nodes) × LowPrices (now known) ⌝ }
-    ensures { λ r. ⌜ ((w : CanPlanRing nodes channels count (now (limits .entry)) (now (a .entry)) (now (b .entry)) (now (profit .entry))) → r ≡ max top (cutBest (w .book) j)) ⌝ }
+    ensures { λ r. ⌜ ((w : RingColumns nodes count (now (limits .entry)) (now (a .entry)) (now (b .entry)) (now (profit .entry))) → r ≡ max top (cutBest (w .book) j)) ⌝ }
     ensures { λ r. ⌜ LowPrices (now (known .exit)) ⌝ }
 {
-    let above = cut_ceiling(j, nodes, channels, count, limits, a, b, profit, known);
+    let above = cut_ceiling(j, nodes, count, limits, a, b, profit, known);
     if above <= top {
         return top;
     }
-    let earned = cut_earnings(j, nodes, channels, count, limits, a, b, profit, known);
+    let earned = cut_earnings(j, nodes, count, limits, a, b, profit, known);
     known::higher(top, earned)
 }
 
 // The lowest-numbered span whose line has the greatest best earnings.
 fn best_cut(
     nodes: usize,
-    channels: usize,
     count: usize,
     limits: &[usize; 64],
     a: &[usize; 256],
     b: &[usize; 256],
     profit: &[usize; 256],
 ) -> usize
-    requires { ⌜ CanPlanRing nodes channels count (now limits) (now a) (now b) (now profit) ⌝ }
-    ensures { λ r. ⌜ ((w : CanPlanRing nodes channels count (now (limits .entry)) (now (a .entry)) (now (b .entry)) (now (profit .entry))) → r ≡ cut (w .book)) ⌝ }
+    requires { ⌜ RingColumns nodes count (now limits) (now a) (now b) (now profit) ⌝ }
+    ensures { λ r. ⌜ ((w : RingColumns nodes count (now (limits .entry)) (now (a .entry)) (now (b .entry)) (now (profit .entry))) → r ≡ cut (w .book)) ⌝ }
 {
     let mut known = [0usize; 64];
     let mut best = 0;
-    let mut top = cut_earnings(0, nodes, channels, count, limits, a, b, profit, &mut known);
+    let mut top = cut_earnings(0, nodes, count, limits, a, b, profit, &mut known);
     let mut j = 1;
     while j < nodes {
-        let earned = raised(
-            top,
-            j,
-            nodes,
-            channels,
-            count,
-            limits,
-            a,
-            b,
-            profit,
-            &mut known,
-        );
+        let earned = raised(top, j, nodes, count, limits, a, b, profit, &mut known);
         if top < earned {
             top = earned;
             best = j;
@@ -144,9 +129,9 @@ pub fn plan_ring(
     profit: &[usize; 256],
 ) -> RingPlan
     requires { ⌜ CanPlanRing nodes channels count (now limits) (now a) (now b) (now profit) ⌝ }
-    ensures { λ r. ⌜ ((w : CanPlanRing nodes channels count (now (limits .entry)) (now (a .entry)) (now (b .entry)) (now (profit .entry))) → RingPlanned (w .book) (r .answer) (r .cut) (r .entries)) ⌝ }
+    ensures { λ r. ⌜ ((w : CanPlanRing nodes channels count (now (limits .entry)) (now (a .entry)) (now (b .entry)) (now (profit .entry))) → RingPlanned (w .columns .book) (r .answer) (r .cut) (r .entries)) ⌝ }
 {
-    let j = best_cut(nodes, channels, count, limits, a, b, profit);
+    let j = best_cut(nodes, count, limits, a, b, profit);
     let mut turned = [0usize; 64];
     let mut from = [0usize; 256];
     let mut to = [0usize; 256];

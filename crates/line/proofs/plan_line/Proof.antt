@@ -28,10 +28,10 @@ abbrev mapped : tie.After-price → tie.After-by-number
 mapped p = p .before .before .before .before .before
 
 solve-requires : tie.Need-solve-requires
-solve-requires c κs = can-solve (c .before .before .before .before .pre)
+solve-requires c κs = can-solve (c .before .before .before .before .pre .columns)
 
 hand-out-requires : tie.Need-hand-out-requires
-hand-out-requires c κs = let s = c .before .before .before .before in can-hand-out (start s .pre) (s .solve .ensures)
+hand-out-requires c κs = let s = c .before .before .before .before in can-hand-out (start s .pre .columns) (s .solve .ensures) (start s .pre .channels-is)
 
 -- none is left without a channel, so this way is not taken
 returns : tie.Need-returns
@@ -46,31 +46,31 @@ enter-requires : tie.Need-enter-requires
 enter-requires c κs =
     let h = c .before .before .before .before .before in
     let s = solved h in
-    channels-small (start s .pre) (s .solve .ensures) (h .hand-out .ensures)
+    channels-small (start s .pre .columns) (s .solve .ensures) (start s .pre .channels-is) (h .hand-out .ensures)
 
 by-number-requires : tie.Need-by-number-requires
-by-number-requires c κs = let s = solved (handed (c .before)) in omega (arith, can-solve (start s .pre) .cells-upto)
+by-number-requires c κs = let s = solved (handed (c .before)) in omega (arith, can-solve (start s .pre .columns) .cells-upto)
 
 array-borrow-prefix-prices : tie.Need-array-borrow-prefix-prices
-array-borrow-prefix-prices c = let s = solved (handed (entered (c .before .before .before))) in omega (arith, can-solve (start s .pre) .cells-upto)
+array-borrow-prefix-prices c = let s = solved (handed (entered (c .before .before .before))) in omega (arith, can-solve (start s .pre .columns) .cells-upto)
 
 slice-aggregate-price : tie.Need-slice-aggregate-price
-slice-aggregate-price c = let s = solved (handed (entered (c .before .before .before .before))) in sym (length-take-le _ _ (omega (arith, can-solve (start s .pre) .cells-upto)))
+slice-aggregate-price c = let s = solved (handed (entered (c .before .before .before .before))) in sym (length-take-le _ _ (omega (arith, can-solve (start s .pre .columns) .cells-upto)))
 
 price-requires : tie.Need-price-requires
 price-requires c κs =
     let m = c .before .before .before .before in
     let s = solved (handed (entered m)) in
     record {
-      falling = falling (start s .pre) (s .solve .ensures);
-      places = line-places (m .by-number .ensures) (length-take-le _ _ (omega (arith, can-solve (start s .pre) .cells-upto)));
+      falling = falling (start s .pre .columns) (s .solve .ensures);
+      places = line-places (m .by-number .ensures) (length-take-le _ _ (omega (arith, can-solve (start s .pre .columns) .cells-upto)));
     }
 
 earned-requires : tie.Need-earned-requires
-earned-requires c κs = let s = solved (handed (entered (mapped (c .before .before)))) in can-solve (start s .pre) .profits-are
+earned-requires c κs = let s = solved (handed (entered (mapped (c .before .before)))) in can-solve (start s .pre .columns) .profits-are
 
 number-requires : tie.Need-number-requires
-number-requires c κs = let s = solved (handed (entered (mapped (c .before .before .before .before)))) in can-solve (start s .pre) .profits-are .few
+number-requires c κs = let s = solved (handed (entered (mapped (c .before .before .before .before)))) in can-solve (start s .pre .columns) .profits-are .few
 
 returns-2 : tie.Need-returns-2
 returns-2 c =
@@ -79,13 +79,13 @@ returns-2 c =
     let e = entered m in
     let h = handed e in
     let s = solved h in
-    λ w. planned w (s .solve .ensures) (h .hand-out .ensures) (e .enter .ensures) (line-placed (m .by-number .ensures) (length-take-le _ _ (omega (arith, can-solve w .cells-upto))) (p .price .ensures) _) (c .before .before .earned .ensures) (c .number .ensures)
+    λ w. planned (w .columns) (s .solve .ensures) (w .channels-is) (h .hand-out .ensures) (e .enter .ensures) (line-placed (m .by-number .ensures) (length-take-le _ _ (omega (arith, can-solve (w .columns) .cells-upto))) (p .price .ensures) _) (c .before .before .earned .ensures) (c .number .ensures)
 
 pub plan-line-spec : {M : Type 1} → statement M
 plan-line-spec =
     tie.close
     (tie.spec
-    (λ c. some-node (c .pre))
+    (λ c. some-node (c .pre .columns))
     solve-requires
     hand-out-requires
     (λ c. search needs)

@@ -4,7 +4,7 @@ use mathlib.Core.Logic.{⊎-elim}
 use Prim.Native.Nat.{_-_, _≤_}
 use native.Mathlib.Omega.{arith}
 use Rattle.cells.specs.Placing.{LowPrices}
-use Rattle.ring.specs.Promise.{CanPlanRing}
+use Rattle.ring.specs.Promise.{RingColumns}
 use Rattle.ring.specs.Turned.{few-nodes, some-nodes}
 use Rattle.ring.specs.Known.{low-none}
 use Rattle.ring.specs.Choosing.{BestBelow, best-first, best-better, best-stays, best-chosen}
@@ -12,11 +12,11 @@ use Rattle.ring.proofs.best_cut.Statement.{statement}
 use Rattle.ring.proofs.best_cut.Tie as tie
 
 abbrev Inv-loop : tie.InvT-loop
-Inv-loop nodes channels count limits a b profit known₀ best₀ top₀ j₀ known best top j =
-    (1 ≤ j) × (j ≤ nodes) × ((w : CanPlanRing nodes channels count limits a b profit) → BestBelow (w .book) j best top) × LowPrices known
+Inv-loop nodes count limits a b profit known₀ best₀ top₀ j₀ known best top j =
+    (1 ≤ j) × (j ≤ nodes) × ((w : RingColumns nodes count limits a b profit) → BestBelow (w .book) j best top) × LowPrices known
 
 abbrev μ-loop : tie.MeasureT-loop
-μ-loop nodes channels count limits a b profit known₀ best₀ top₀ j₀ known best top j = nodes - j
+μ-loop nodes count limits a b profit known₀ best₀ top₀ j₀ known best top j = nodes - j
 
 cut-earnings-requires : tie.Need-cut-earnings-requires Inv-loop μ-loop
 cut-earnings-requires c κs = (c .before .pre, (omega (arith, some-nodes (c .before .pre)), low-none))

@@ -1,6 +1,6 @@
 -- `ring::cut_earnings` meets its contract: the turned columns hold the line which the cut leaves, and `known::best_earnings` speaks of that line. Assumes nothing.
 use borrow.Author.Needs.{needs}
-use Rattle.ring.specs.Turned.{few-nodes, some-nodes, a-nodes, b-nodes, cut-plannable, cut-earned}
+use Rattle.ring.specs.Turned.{few-nodes, some-nodes, a-nodes, b-nodes, cut-columns, cut-earned}
 use Rattle.ring.proofs.cut_earnings.Statement.{statement}
 use Rattle.ring.proofs.cut_earnings.Tie as tie
 
@@ -17,7 +17,7 @@ best-earnings-requires : tie.Need-best-earnings-requires
 best-earnings-requires c κs =
     let t = c .before .before .before .before in
     let p = t .before .before .before .before .before .before in (
-      cut-plannable (p .pre .0) _ (p .pre .1 .0) (t .before .before .before .before .turn-limits .ensures) (t .before .before .turn-ends .ensures) (t .turn-ends2 .ensures),
+      cut-columns (p .pre .0) _ (p .pre .1 .0) (t .before .before .before .before .turn-limits .ensures) (t .before .before .turn-ends .ensures) (t .turn-ends2 .ensures),
       (p .pre .1 .0, some-nodes (p .pre .0), few-nodes (p .pre .0), p .pre .1 .1),
     )
 
