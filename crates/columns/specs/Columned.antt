@@ -1,11 +1,12 @@
--- What `columns` promises: place by place, below the count, the columns have the requests' fields. Each turn fills one place of each. Assumes
--- nothing.
-use mathlib.Core.Path.{_≡_, refl}
+-- What `columns` promises: place by place, below the count, the columns have the requests' fields, and they hold nothing past it. Each turn fills one
+-- place of each. Assumes nothing.
+use mathlib.Core.Path.{refl}
 use mathlib.Core.List.{List}
 use Prim.Native.Nat.{ℕ, _+_, _≤_, _<_}
 use native.Mathlib.Omega.{arith}
-use lib.ListN.{length, getD, set, length-set}
+use lib.ListN.{length, getD, set}
 use Rattle.sums.specs.Filled.{Filled, filled-none, filled-more}
+use Rattle.sums.specs.Vacant.{Vacant, vacant-more}
 use Rattle.records.specs.declared.Request.{Request}
 use Rattle.reader.specs.Says.{noRequest}
 use Rattle.columns.specs.declared.RequestColumns.{RequestColumns}
@@ -18,38 +19,35 @@ pub record Columned (requests : List Request) (count : ℕ) (made : RequestColum
   pub a-is : Filled (λ i. request requests i .a) count (made .a)
   pub b-is : Filled (λ i. request requests i .b) count (made .b)
   pub profit-is : Filled (λ i. request requests i .profit) count (made .profit)
+  pub a-end : Vacant 0 count 256 (made .a)
+  pub b-end : Vacant 0 count 256 (made .b)
+  pub profit-end : Vacant 0 count 256 (made .profit)
 
 -- a list has `count` requests, and the columns have room for them
 pub record CanColumn (requests : List Request) (count : ℕ) : Type 0 where
   pub few : count ≤ 256
   pub there : count ≤ length requests
 
--- the columns after i turns
-pub record Filling (requests : List Request) (i : ℕ) (a b profit : List ℕ) : Type 0 where
-  pub so-far : Columned requests i (record { a = a; b = b; profit = profit })
-  pub a-long : length a ≡ 256
-  pub b-long : length b ≡ 256
-  pub profit-long : length profit ≡ 256
-
 module _ (requests : List Request) where
-  pub filling-none : (a b profit : List ℕ) → length a ≡ 256 → length b ≡ 256 → length profit ≡ 256 → Filling requests 0 a b profit
-  filling-none a b profit la lb lp = record {
-    so-far = record { a-is = filled-none _ a; b-is = filled-none _ b; profit-is = filled-none _ profit };
-    a-long = la;
-    b-long = lb;
-    profit-long = lp;
+  -- from a list in which nothing stands yet
+  pub columned-none : {new : List ℕ} → Vacant 0 0 256 new → Columned requests 0 (record { a = new; b = new; profit = new })
+  columned-none {new} empty = record {
+    a-is = filled-none _ new;
+    b-is = filled-none _ new;
+    profit-is = filled-none _ new;
+    a-end = empty;
+    b-end = empty;
+    profit-end = empty;
   }
 
-  pub filling-more :
-      {i : ℕ} {a b profit : List ℕ} → Filling requests i a b profit → i < 256
-      → Filling requests (i + 1) (set a i (request requests i .a)) (set b i (request requests i .b)) (set profit i (request requests i .profit))
-  filling-more was l = record {
-    so-far = record {
-      a-is = filled-more _ (was .so-far .a-is) (omega arith) refl;
-      b-is = filled-more _ (was .so-far .b-is) (omega arith) refl;
-      profit-is = filled-more _ (was .so-far .profit-is) (omega arith) refl;
-    };
-    a-long = simp length-set (was .a-long);
-    b-long = simp length-set (was .b-long);
-    profit-long = simp length-set (was .profit-long);
+  pub columned-more :
+      {i : ℕ} {a b profit : List ℕ} → Columned requests i (record { a = a; b = b; profit = profit }) → i < 256
+      → Columned requests (i + 1) (record { a = set a i (request requests i .a); b = set b i (request requests i .b); profit = set profit i (request requests i .profit) })
+  columned-more was l = record {
+    a-is = filled-more _ (was .a-is) (omega (arith, was .a-end .long)) refl;
+    b-is = filled-more _ (was .b-is) (omega (arith, was .b-end .long)) refl;
+    profit-is = filled-more _ (was .profit-is) (omega (arith, was .profit-end .long)) refl;
+    a-end = vacant-more (was .a-end) _;
+    b-end = vacant-more (was .b-end) _;
+    profit-end = vacant-more (was .profit-end) _;
   }

@@ -6,6 +6,7 @@ use Prim.Native.Nat.{ℕ, _≤_, _<_}
 use native.Mathlib.Omega.{arith}
 use lib.ListN.{length, take, length-map, List·getD-map}
 use lib.Seq.{getD-take, length-take-le}
+use Rattle.sums.specs.Vacant.{Vacant}
 use Rattle.book.specs.Book as Books
 use Rattle.book.specs.Book.{Book, spans, limit, endA, endB, profit}
 use Rattle.book.specs.Reading.{done, reading}
@@ -20,7 +21,7 @@ use Rattle.reader.specs.Accepted.{accepted-read}
 use Rattle.columns.specs.declared.RequestColumns.{RequestColumns}
 use Rattle.columns.specs.Columned.{Columned, CanColumn, request}
 
--- an accepted book, with the numbers that hold it
+-- an accepted book, with the numbers that hold it; past the count the ends are 0
 pub record HeldBook (net : Network) (count : ℕ) (limits a b profits : List ℕ) : Type 0 where
   pub book : Book
   pub sound : Sound book
@@ -28,6 +29,8 @@ pub record HeldBook (net : Network) (count : ℕ) (limits a b profits : List ℕ
   pub nodes-is : book .nodes ≡ net .nodes
   pub channels-is : book .channels ≡ net .channels
   pub holds : Holds book count limits a b profits
+  pub a-end : Vacant 0 count 256 a
+  pub b-end : Vacant 0 count 256 b
 
 module _ (net : Network) (limits : List ℕ) (count : ℕ) (requests : List Request) where
   made-count : count ≤ length requests → count ≡ Books.count (bookFrom net limits count requests)
@@ -71,6 +74,8 @@ lent-held {net} {limits} {requests} {count} lent made = record {
   nodes-is = refl;
   channels-is = refl;
   holds = made-holds net limits count requests (lent .can .there) made;
+  a-end = made .a-end;
+  b-end = made .b-end;
 }
 
 pub accepted :

@@ -47,11 +47,12 @@ use denote.Triple.Spec.{Meets, tripleOf}
 use denote.Triple.Table.{entered}
 use denote.Triple.Walked.{says, needs, Stays, stay-none, stay-none-slice, walkOf, goes-none, goes-none-slice, Walks, ends-at, walked, walk-meets}
 use denote.Exit.{yes}
+use Rattle.sums.specs.Vacant.{Vacant, vacant-new}
 use Rattle.records.specs.declared.Request.{Request}
 use Rattle.reader.specs.Says.{noRequest}
 use Rattle.records.proofs.Request as Q
 use Rattle.records.proofs.Request.Laws as Q′
-use Rattle.columns.specs.Columned.{Columned, CanColumn, Filling, filling-none, filling-more, request}
+use Rattle.columns.specs.Columned.{Columned, CanColumn, columned-none, columned-more, request}
 use Rattle.columns.specs.Lending.{arrayTy}
 use Rattle.columns.specs.declared.RequestColumns.{RequestColumns}
 use Rattle.columns.proofs.RequestColumns as K
@@ -115,9 +116,9 @@ are-zeros n = (replicate n (vint w64 0), ((refl, length-replicate n 0), each-zer
 unfoldable none : List ℕ
 none = replicate 256 0
 
-none-long : length none ≡ 256
+none-vacant : Vacant 0 0 256 none
 unfolding none
-none-long = length-replicate {A = ℕ} 256 0
+none-vacant = vacant-new 0 0 256
 
 -- ---- an array of n numbers, whole and as a row of elements
 module _ {M : Type 1} (𝓤 : URA M) (H : Heap 𝓤) (A : Atoms 𝓤) (W : Given 𝓤 H A) (n b : ℕ) where
@@ -187,7 +188,7 @@ module _ {M : Type 1} (𝓤 : URA M) (H : Heap 𝓤) (A : Atoms 𝓤) (W : Given
 
   -- how far the loop is: the columns have i requests
   abbrev Upto : Type 0
-  Upto = (i : ℕ) × (a : List ℕ) × (b : List ℕ) × (profit : List ℕ) × (i ≤ n) × Filling ys i a b profit
+  Upto = (i : ℕ) × (a : List ℕ) × (b : List ℕ) × (profit : List ℕ) × (i ≤ n) × Columned ys i (record { a = a; b = b; profit = profit })
 
   abbrev Nearer : Upto → Upto → Type 0
   Nearer y x = n - y .0 < n - x .0
@@ -196,7 +197,7 @@ module _ {M : Type 1} (𝓤 : URA M) (H : Heap 𝓤) (A : Atoms 𝓤) (W : Given
   Nearer-wf = InvImage·wf (λ (x : Upto). n - x .0) (Nat·lt-wfRel .wf)
 
   abbrev next : (x : Upto) → x .0 < n → Upto
-  next x l = let z = request ys (x .0) in (x .0 + 1, set (x .1) (x .0) (z .a), set (x .2) (x .0) (z .b), set (x .3) (x .0) (z .profit), omega arith, filling-more ys (x .5) (omega (arith, can .few)))
+  next x l = let z = request ys (x .0) in (x .0 + 1, set (x .1) (x .0) (z .a), set (x .2) (x .0) (z .b), set (x .3) (x .0) (z .profit), omega arith, columned-more ys (x .5) (omega (arith, can .few)))
 
   module _ (𝓣 : Tables 𝓤 H) (list-fits : length ys * 32 < 2 ^ 63) (l₀ l₁ l₂ l₃ l₄ l₅ l₆ l₇ l₈ l₉ l₁₀ l₁₁ l₁₂ l₁₃ l₁₄ l₁₅ l₁₆ l₁₇ l₁₈ l₁₉ l₂₀ : ℕ) where
     abbrev C : Calls 𝓤 H
@@ -231,11 +232,11 @@ module _ {M : Type 1} (𝓤 : URA M) (H : Heap 𝓤) (A : Atoms 𝓤) (W : Given
     Turned x = afterTurn 𝓤 H (Below 𝓤 H A Nearer At x) (afterBlock 𝓤 H (afterSeq 𝓤 H (Wp 𝓤 H C Λ En text.t-6 (atReturn 𝓤 H En Post)) (atReturn 𝓤 H En Post)))
 
     -- after the loop: the arrays are whole again, and the columns are made of them
-    leaves : (a b profit : List ℕ) (i : ℕ) → Filling ys n a b profit → Sq W (‵ (row usize fullShare a l₃ 0) ∷ ‵ (row usize fullShare b l₄ 0) ∷ ‵ (row usize fullShare profit l₅ 0) ∷ ‵ Own ∷ Tok ∷ Locals i) (runs C Λ En text.t-6 (atRet En Post))
+    leaves : (a b profit : List ℕ) (i : ℕ) → Columned ys n (record { a = a; b = b; profit = profit }) → Sq W (‵ (row usize fullShare a l₃ 0) ∷ ‵ (row usize fullShare b l₄ 0) ∷ ‵ (row usize fullShare profit l₅ 0) ∷ ‵ Own ∷ Tok ∷ Locals i) (runs C Λ En text.t-6 (atRet En Post))
     leaves a b profit i all =
-        use1 W (given (Is (Array usize 256) a (vals a)) (‵ (fat fullShare numbers l₃ 0 (val a)))) (as-whole 𝓤 H A W 256 l₃ a (all .a-long)) $ learn ! (λ is-a. move ! (1 ∷ []) $
-        use1 W (given (Is (Array usize 256) b (vals b)) (‵ (fat fullShare numbers l₄ 0 (val b)))) (as-whole 𝓤 H A W 256 l₄ b (all .b-long)) $ learn ! (λ is-b. move ! (2 ∷ []) $
-        use1 W (given (Is (Array usize 256) profit (vals profit)) (‵ (fat fullShare numbers l₅ 0 (val profit)))) (as-whole 𝓤 H A W 256 l₅ profit (all .profit-long)) $ learn ! (λ is-profit.
+        use1 W (given (Is (Array usize 256) a (vals a)) (‵ (fat fullShare numbers l₃ 0 (val a)))) (as-whole 𝓤 H A W 256 l₃ a (all .a-end .long)) $ learn ! (λ is-a. move ! (1 ∷ []) $
+        use1 W (given (Is (Array usize 256) b (vals b)) (‵ (fat fullShare numbers l₄ 0 (val b)))) (as-whole 𝓤 H A W 256 l₄ b (all .b-end .long)) $ learn ! (λ is-b. move ! (2 ∷ []) $
+        use1 W (given (Is (Array usize 256) profit (vals profit)) (‵ (fat fullShare numbers l₅ 0 (val profit)))) (as-whole 𝓤 H A W 256 l₅ profit (all .profit-end .long)) $ learn ! (λ is-profit.
         -- [_5; _4; _3; the list; the token; the other locals]
         assigns ! (of-opd ! (load ! (from ! (stop !)) (look ! 2 refl))) (from ! (stop !)) (init ! 9 refl (array-lawful 𝓤 H A W usize (uint-lawful 𝓤 H A W w64) 256 .typed a _ is-a .0)) $
         assigns ! (of-opd ! (load ! (from ! (stop !)) (look ! 1 refl))) (from ! (stop !)) (init ! 7 refl (array-lawful 𝓤 H A W usize (uint-lawful 𝓤 H A W w64) 256 .typed b _ is-b .0)) $
@@ -247,7 +248,7 @@ module _ {M : Type 1} (𝓤 : URA M) (H : Heap 𝓤) (A : Atoms 𝓤) (W : Given
         -- [the list; the token; _20; …; down to _6; …]
         move ! (30 ∷ 31 ∷ []) $ free1 ! $ move ! (28 ∷ 29 ∷ []) $ free1 ! $ move ! (26 ∷ 27 ∷ []) $ free1 ! $ move ! (24 ∷ 25 ∷ []) $ free1 ! $ move ! (22 ∷ 23 ∷ []) $ free1 ! $ move ! (20 ∷ 21 ∷ []) $ free1 ! $ move ! (18 ∷ 19 ∷ []) $ free1 ! $
         move ! (16 ∷ 17 ∷ []) $ free1 ! $ move ! (14 ∷ 15 ∷ []) $ free1 ! $ move ! (12 ∷ 13 ∷ []) $ free1 ! $ move ! (10 ∷ 11 ∷ []) $ free1 ! $ move ! (8 ∷ 9 ∷ []) $ free1 ! $ move ! (6 ∷ 7 ∷ []) $ free1 ! $ move ! (4 ∷ 5 ∷ []) $ free1 ! $ move ! (2 ∷ 3 ∷ []) $ free1 ! $ free0 ! $
-        by ! (exits made _ (is-made is-a is-b is-profit) (all .so-far)))))
+        by ! (exits made _ (is-made is-a is-b is-profit) all))))
       where
         made : RequestColumns
         made = record { a = a; b = b; profit = profit }
@@ -265,7 +266,7 @@ module _ {M : Type 1} (𝓤 : URA M) (H : Heap 𝓤) (A : Atoms 𝓤) (W : Given
 
     -- what a turn stores lies in the columns, and its offsets fit
     inside : (x : Upto) → x .0 < n → (x .0 < length (x .1)) × (x .0 < length (x .2)) × (x .0 < length (x .3))
-    inside x l = (omega (arith, can .few, x .5 .a-long), omega (arith, can .few, x .5 .b-long), omega (arith, can .few, x .5 .profit-long))
+    inside x l = (omega (arith, can .few, x .5 .a-end .long), omega (arith, can .few, x .5 .b-end .long), omega (arith, can .few, x .5 .profit-end .long))
 
     eight : (x : Upto) → x .0 < n → x .0 * 8 < 2 ^ 64
     eight x l = omega (arith, can .few)
@@ -328,7 +329,7 @@ module _ {M : Type 1} (𝓤 : URA M) (H : Heap 𝓤) (A : Atoms 𝓤) (W : Given
 
     -- the loop, from columns that no request stands in
     looped : Sq W (‵ (row usize fullShare none l₃ 0) ∷ ‵ (row usize fullShare none l₄ 0) ∷ ‵ (row usize fullShare none l₅ 0) ∷ ‵ Own ∷ Tok ∷ Locals 0) (runs C Λ En text.t-5 (atRet En Post))
-    looped = first ! $ blocks ! $ loops ! 𝓣 Nearer Nearer-wf At turns (0, none, none, none, omega arith, filling-none ys none none none none-long none-long none-long)
+    looped = first ! $ blocks ! $ loops ! 𝓣 Nearer Nearer-wf At turns (0, none, none, none, omega arith, columned-none ys none-vacant)
 
   none-row : (b : ℕ) → ent 𝓤 (sem 𝓤 H A (fat fullShare numbers b 0 (zeros 256))) (sem 𝓤 H A (row usize fullShare none b 0))
   unfolding none
