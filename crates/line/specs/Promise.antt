@@ -3,7 +3,8 @@ use mathlib.Core.Bool.{true}
 use mathlib.Core.List.{List}
 use mathlib.Core.Path.{_≡_}
 use Prim.Native.Nat.{ℕ, _-_, _≤_, _<_}
-use Rattle.book.specs.Book.{Book, spans}
+use Rattle.sums.specs.Vacant.{Vacant}
+use Rattle.book.specs.Book.{Book, spans, count}
 use Rattle.book.specs.Columns.{at}
 use Rattle.rules.specs.Plans.{numberKept, earnings, Best}
 use Rattle.rules.specs.Channels.{byRule}
@@ -23,10 +24,12 @@ pub record CanPlanLine (nodes channels count : ℕ) (limits a b profits : List �
   pub channels-is : channels ≡ columns .book .channels
 
 -- A best plan with the channels of the rule; earnings and number kept are sums over its entries; prices up to 1,000,000 at which the checker accepts it.
--- Refusal 15 is never the answer.
+-- No entry stands past the requests and no price past the spans. Refusal 15 is never the answer.
 pub record LinePlanned (book : Book) (answer : Solved) (entries prices : List ℕ) : Type 0 where
   pub says : answer ≡ Planned (earnings book (at entries)) (numberKept book (at entries))
   pub best-plan : Best book (at entries)
   pub by-rule : byRule book (at entries) ≡ true
   pub prices-upto : (s : ℕ) → s < spans book → at prices s ≤ 1000000
   pub accepted : verdict book (at entries) (at prices) ≡ true
+  pub entries-end : Vacant 0 (count book) 256 entries
+  pub prices-end : Vacant 0 (spans book) 64 prices

@@ -2,12 +2,14 @@
 -- and from these to a best plan that the checker accepts. Every step is a law of the crates below. Assumes nothing.
 use mathlib.Core.Path.{_≡_, refl, sym, ap, ap₂, subst, _∙_}
 use mathlib.Core.Bool.{Bool, true}
-use mathlib.Core.List.{List}
+use mathlib.Core.List.{List, _++_}
 use Prim.Native.Nat.{ℕ, suc, _-_, _≤_, _<_}
 use native.Mathlib.Omega.{arith}
+use lib.ListN.{length, drop, replicate}
 use lib.IntN.{ℤ}
 use Rattle.sums.specs.Sums.{when, Σ-ext}
 use Rattle.sums.specs.Filled.{Filled}
+use Rattle.sums.specs.Vacant.{Vacant, vacant-new, vacant-part}
 use Rattle.book.specs.Book.{spans}
 use Rattle.book.specs.Columns.{at}
 use Rattle.rules.specs.Plans.{kept, channel, obeys}
@@ -29,12 +31,17 @@ use Rattle.channels.specs.HandOut.{rowOn, CanHandOut, HandedOut}
 use Rattle.channels.specs.declared.Given.{Given}
 use Rattle.cells.specs.Steps.{CanSolve, Solves, Falling, prices-of}
 use Rattle.cells.specs.Solving.{real-intervals}
+use Rattle.cells.specs.Placing.{Placed}
 use Rattle.line.specs.declared.Solved.the-variants.{Planned}
 use Rattle.line.specs.Promise.{LineColumns, LinePlanned}
 use Rattle.line.specs.Steps.{Channels, Entered, sumOf, numberOf}
 use Rattle.line.specs.AsRow.{same-intervals, same-row}
 use Rattle.line.specs.Certified.{Certified, certified, certified-yes, earns-best}
 use Rattle.line.specs.Written.{keeps-are, goes-its-way, channels-are, sum-is, number-is}
+
+-- prices that are placed in the first n places of a new list leave the others as they were
+pub placed-end : {f : ℕ → ℕ} {n : ℕ} {place before part : List ℕ} → Placed f place n before part → length before ≡ n → n ≤ 64 → Vacant 0 n 64 (part ++ drop n (replicate 64 0))
+placed-end {n} {part} p e l = vacant-part (vacant-new 0 n 64) part (p .as-long ∙ e) l
 
 module _ {nodes count : ℕ} {limits a b profits : List ℕ} (w : LineColumns nodes count limits a b profits) where
   cells-are : nodes - 1 ≡ spans (w .book)
@@ -109,34 +116,39 @@ module _ {nodes count : ℕ} {limits a b profits : List ℕ} (w : LineColumns no
 
         -- ---- entries and prices as they are written
 
-        module _ {entries prices : List ℕ} (e : Entered count a b keeps channels entries) (p : Filled (prices-of dist) (nodes - 1) prices) where
-          same-set : SameKept count (flag keeps) (kept (at entries))
-          same-set = keeps-are (w .held .holds) channels-small e
+        module _
+            {entries prices : List ℕ} (e : Entered count a b keeps channels entries) (p : Filled (prices-of dist) (nodes - 1) prices)
+            (no-entry : Vacant 0 count 256 entries) (no-price : Vacant 0 (nodes - 1) 64 prices)
+          where
+            same-set : SameKept count (flag keeps) (kept (at entries))
+            same-set = keeps-are (w .held .holds) channels-small e
 
-          laid : Laid (w .book) (at entries)
-          laid = goes-its-way (w .held .holds) channels-small e
+            laid : Laid (w .book) (at entries)
+            laid = goes-its-way (w .held .holds) channels-small e
 
-          certificate : Certified (w .book) (kept (at entries)) (at prices)
-          certificate = stands same-set (λ j l. sym (p .is j l))
+            certificate : Certified (w .book) (kept (at entries)) (at prices)
+            certificate = stands same-set (λ j l. sym (p .is j l))
 
-          rule : byRule (w .book) (at entries) ≡ true
-          rule =
-              ruled-rule (w .held .line) laid
-              (subst (λ (n : ℕ). Ruled (rowOf (w .book)) n (kept (at entries)) (channel (at entries))) its
-              (ruled-same over same-set k (channels-are (w .held .holds) channels-small e) (h .ruled)))
+            rule : byRule (w .book) (at entries) ≡ true
+            rule =
+                ruled-rule (w .held .line) laid
+                (subst (λ (n : ℕ). Ruled (rowOf (w .book)) n (kept (at entries)) (channel (at entries))) its
+                (ruled-same over same-set k (channels-are (w .held .holds) channels-small e) (h .ruled)))
 
-          fair : obeys (w .book) (at entries) ≡ true
-          unfolding rowOf
-          fair = rule-obeys (w .held .line) laid (λ j l. rw (load-row (w .held .line) laid j) (certificate .within .holds j l)) rule
+            fair : obeys (w .book) (at entries) ≡ true
+            unfolding rowOf
+            fair = rule-obeys (w .held .line) laid (λ j l. rw (load-row (w .held .line) laid j) (certificate .within .holds j l)) rule
 
-          pub planned : {earned number : ℕ} → earned ≡ sumOf count keeps profits → number ≡ numberOf count keeps → LinePlanned (w .book) (Planned earned number) entries prices
-          unfolding clamp
-          planned earns counts =
-              let accepted = certified-yes (w .held .line) (at entries) fair certificate in
-              record {
-                says = ap₂ Planned (earns ∙ sum-is (w .held .holds) channels-small e) (counts ∙ number-is (w .held .holds) channels-small e);
-                best-plan = yes-best (w .held .line) (at entries) (at prices) accepted;
-                by-rule = rule;
-                prices-upto = λ j l. omega (arith, p .is j (omega (arith, cells-are)));
-                accepted = accepted;
-              }
+            pub planned : {earned number : ℕ} → earned ≡ sumOf count keeps profits → number ≡ numberOf count keeps → LinePlanned (w .book) (Planned earned number) entries prices
+            unfolding clamp
+            planned earns counts =
+                let accepted = certified-yes (w .held .line) (at entries) fair certificate in
+                record {
+                  says = ap₂ Planned (earns ∙ sum-is (w .held .holds) channels-small e) (counts ∙ number-is (w .held .holds) channels-small e);
+                  best-plan = yes-best (w .held .line) (at entries) (at prices) accepted;
+                  by-rule = rule;
+                  prices-upto = λ j l. omega (arith, p .is j (omega (arith, cells-are)));
+                  accepted = accepted;
+                  entries-end = subst (λ (n : ℕ). Vacant 0 n 256 entries) (w .held .holds .counted) no-entry;
+                  prices-end = subst (λ (n : ℕ). Vacant 0 n 64 prices) cells-are no-price;
+                }

@@ -1,6 +1,7 @@
 // The entries of a plan, and the sums over what is kept.
 ghost use mathlib.Core.Path.{_≡_};
 ghost use Prim.Native.Nat.{_≤_};
+ghost use Rattle.sums.specs.Vacant.{Vacant};
 ghost use Rattle.cells.specs.Steps.{Profits};
 ghost use Rattle.line.specs.Steps.{Channels, Entered, sumOf, numberOf};
 
@@ -36,7 +37,7 @@ pub fn number(count: usize, kept: &[bool; 256]) -> usize
     sum
 }
 
-// The entry of each request: 0 where it is not kept, else way times 256 plus channel.
+// The entry of each request: 0 where it is not kept, else way times 256 plus channel. Nothing is written past the count.
 pub fn enter(
     count: usize,
     a: &[usize; 256],
@@ -47,6 +48,7 @@ pub fn enter(
 )
     requires { ⌜ Channels count (now channel) ⌝ }
     ensures { λ r. ⌜ Entered count (now (a .entry)) (now (b .entry)) (now (kept .entry)) (now (channel .entry)) (now (entries .exit)) ⌝ }
+    ensures { λ r. ⌜ (Vacant 0 count 256 (now (entries .entry)) → Vacant 0 count 256 (now (entries .exit))) ⌝ }
 {
     // the whole array, so that its length is known
     let all = &entries[..];

@@ -5,9 +5,10 @@ use Prim.Native.Nat.{ℕ}
 use native.Mathlib.Omega.{arith}
 use borrow.Author.Needs.{needs}
 use lib.Seq.{length-take-le}
+use Rattle.sums.specs.Vacant.{vacant-new}
 use Rattle.channels.specs.declared.Given.the-variants.{All, NoneLeft}
 use Rattle.cells.specs.Placing.{line-places, line-placed}
-use Rattle.line.specs.Promised.{some-node, can-solve, can-hand-out, channels-small, falling, planned}
+use Rattle.line.specs.Promised.{some-node, can-solve, can-hand-out, channels-small, falling, placed-end, planned}
 use Rattle.line.proofs.plan_line.Statement.{statement}
 use Rattle.line.proofs.plan_line.Tie as tie
 
@@ -79,7 +80,11 @@ returns-2 c =
     let e = entered m in
     let h = handed e in
     let s = solved h in
-    λ w. planned (w .columns) (s .solve .ensures) (w .channels-is) (h .hand-out .ensures) (e .enter .ensures) (line-placed (m .by-number .ensures) (length-take-le _ _ (omega (arith, can-solve (w .columns) .cells-upto))) (p .price .ensures) _) (c .before .before .earned .ensures) (c .number .ensures)
+    λ w.
+    planned (w .columns) (s .solve .ensures) (w .channels-is) (h .hand-out .ensures) (e .enter .ensures .0) (line-placed (m .by-number .ensures) (length-take-le _ _ (omega (arith, can-solve (w .columns) .cells-upto))) (p .price .ensures) _)
+    (e .enter .ensures .1 (vacant-new 0 _ 256))
+    (placed-end (p .price .ensures) (length-take-le _ _ (omega (arith, can-solve (w .columns) .cells-upto))) (omega (arith, can-solve (w .columns) .cells-upto)))
+    (c .before .before .earned .ensures) (c .number .ensures)
 
 pub plan-line-spec : {M : Type 1} → statement M
 plan-line-spec =
