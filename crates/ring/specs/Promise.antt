@@ -3,7 +3,8 @@ use mathlib.Core.Bool.{true}
 use mathlib.Core.List.{List}
 use mathlib.Core.Path.{_≡_}
 use Prim.Native.Nat.{ℕ}
-use Rattle.book.specs.Book.{Book}
+use Rattle.sums.specs.Vacant.{Vacant}
+use Rattle.book.specs.Book.{Book, count}
 use Rattle.book.specs.Columns.{at, Holds}
 use Rattle.rules.specs.Plans.{obeys, numberKept, earnings, Best}
 use Rattle.rules.specs.Channels.{byRule}
@@ -26,10 +27,11 @@ pub record CanPlanRing (nodes channels count : ℕ) (limits a b profits : List �
   pub channels-is : channels ≡ columns .book .channels
 
 -- The cut is the lowest-numbered span whose line has the greatest best earnings; the plan is best on that line, with its channels, and obeys the ring's own
--- rules; earnings and number kept are sums over its entries. Refusal 15 is never the answer.
+-- rules; earnings and number kept are sums over its entries, and none stands past the requests. Refusal 15 is never the answer.
 pub record RingPlanned (book : Book) (answer : Solved) (cut : ℕ) (entries : List ℕ) : Type 0 where
   pub says : answer ≡ Planned (earnings book (at entries)) (numberKept book (at entries))
   pub cut-is : cut ≡ Cuts.cut book
   pub best-plan : Best (cutLine book (Cuts.cut book)) (at entries)
   pub by-rule : byRule (cutLine book (Cuts.cut book)) (at entries) ≡ true
   pub fair : obeys book (at entries) ≡ true
+  pub entries-end : Vacant 0 (count book) 256 entries

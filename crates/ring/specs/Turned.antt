@@ -6,6 +6,7 @@ use mathlib.Core.Path.{_≡_, refl, ap₂, subst, _∙_}
 use Prim.Native.Nat.{ℕ, _+_, _-_, _≤_, _<_}
 use native.Mathlib.Omega.{arith}
 use Rattle.sums.specs.Filled.{Filled}
+use Rattle.sums.specs.Vacant.{Vacant}
 use Rattle.book.specs.Columns.{at, Holds, few, a-node, b-node}
 use Rattle.rules.specs.Plans.{Best}
 use Rattle.rules.specs.Channels.{byRule}
@@ -13,7 +14,7 @@ use Rattle.rules.specs.Best.{best}
 use Rattle.rules.specs.Cuts as Cuts
 use Rattle.rules.specs.Cuts.{steps, spanAt, cutLine, cutBest}
 use Rattle.lines.specs.HeldLine.{line-held}
-use Rattle.rings.specs.CutLine.{ring-spans, cut-line}
+use Rattle.rings.specs.CutLine.{ring-spans, cut-count, cut-line}
 use Rattle.rings.specs.Choice.{cut-in}
 use Rattle.rings.specs.Fair as F
 use Rattle.rings.specs.TurnedColumns.{turned-holds}
@@ -85,4 +86,5 @@ module _ {nodes count : ℕ} {limits a b profits : List ℕ} (w : RingColumns no
             best-plan = subst (λ (k : ℕ). Best (cutLine (w .book) k) (at entries)) chosen (p .best-plan);
             by-rule = subst (λ (k : ℕ). byRule (cutLine (w .book) k) (at entries) ≡ true) chosen (p .by-rule);
             fair = F.cut-plan-obeys (w .ring) j (omega (arith, w .nodes-is, ring-spans (w .ring))) (at entries) (p .best-plan .fair);
+            entries-end = subst (λ (n : ℕ). Vacant 0 n 256 entries) (cut-count (w .ring) j) (p .entries-end);
           }
