@@ -3,12 +3,13 @@
 use mathlib.Core.Bool.{Bool, true, false, _&&_, _||_}
 use mathlib.Core.List.{List}
 use mathlib.Core.Logic.{⊎-elim}
-use mathlib.Core.Path.{_≡_, refl, sym, _∙_}
+use mathlib.Core.Path.{_≡_, refl, sym, subst, _∙_}
 use Prim.Native.Nat.{ℕ}
 use native.Mathlib.Omega.{arith}
 use lib.Dec.{eqb, ltb}
 use lib.ListN.{replicate}
 use Rattle.sums.specs.Each.{of-yes, decided}
+use Rattle.sums.specs.Vacant.{Vacant}
 use Rattle.book.specs.Book.{Book, spans, spansOf, count}
 use Rattle.book.specs.Columns.{at}
 use Rattle.book.specs.Reading.{done, refused, andThen, refused-not-done}
@@ -112,9 +113,11 @@ refuses refusal =
 module _ {net : Network} {n : ℕ} {limits a b profits : List ℕ} (held : HeldBook net n limits a b profits) {entries prices : List ℕ} {solved : Solved} {answer : Answer} where
   plan-of :
       {earned number shown : ℕ} → solved ≡ Solving.the-variants.Planned earned number → answer ≡ answered solved shown → Planned (held .book) (at entries) earned number shown
-      → (held .book .shape ≡ 1 → Priced (held .book) (at entries) (at prices)) → PlanOf (held .book) (beside net n a b (record { answer = answer; entries = entries; prices = prices }))
+      → (held .book .shape ≡ 1 → Priced (held .book) (at entries) (at prices)) → Vacant 0 (count (held .book)) 256 entries
+      → (held .book .shape ≡ 1 → Vacant 0 (spans (held .book)) 64 prices) → (held .book .shape ≡ 2 → prices ≡ replicate 64 0)
+      → PlanOf (held .book) (beside net n a b (record { answer = answer; entries = entries; prices = prices }))
   unfolding answered plannedOf spans
-  plan-of {earned} {number} {shown} solved-is says planned priced =
+  plan-of {earned} {number} {shown} solved-is says planned priced entries-end prices-end no-prices =
       record {
         earned = earned;
         number = number;
@@ -128,6 +131,11 @@ module _ {net : Network} {n : ℕ} {limits a b profits : List ℕ} (held : HeldB
         count-is = held .holds .counted;
         a-is = λ i h. held .holds .a-is i (omega (arith, held .holds .counted));
         b-is = λ i h. held .holds .b-is i (omega (arith, held .holds .counted));
+        a-end = subst (λ (m : ℕ). Vacant 0 m 256 a) (held .holds .counted) (held .a-end);
+        b-end = subst (λ (m : ℕ). Vacant 0 m 256 b) (held .holds .counted) (held .b-end);
+        entries-end = entries-end;
+        line-prices-end = prices-end;
+        ring-prices = no-prices;
       }
 
   pub on-line : net .shape ≡ 1 → LinePlanned (held .book) solved entries prices → answer ≡ answered solved 65535 → PlanOf (held .book) (beside net n a b (record { answer = answer; entries = entries; prices = prices }))
@@ -143,11 +151,14 @@ module _ {net : Network} {n : ℕ} {limits a b profits : List ℕ} (held : HeldB
         cut-is = sym (line-shown (held .book) line);
       })
       (λ l. record { small = made .prices-upto; accepted = made .accepted })
+      (made .entries-end)
+      (λ l. made .prices-end)
+      (λ l. absurd (omega (arith, line)))
 
   pub on-ring :
-      {shown : ℕ} → (net .shape ≡ 1 → ⊥) → RingPlanned (held .book) solved shown entries → answer ≡ answered solved shown
+      {shown : ℕ} → (net .shape ≡ 1 → ⊥) → RingPlanned (held .book) solved shown entries → prices ≡ replicate 64 0 → answer ≡ answered solved shown
       → PlanOf (held .book) (beside net n a b (record { answer = answer; entries = entries; prices = prices }))
-  on-ring other made says =
+  on-ring other made no-prices says =
       let ring = held-ring other held .columns .ring .ring in
       plan-of (made .says) says
       (record {
@@ -159,6 +170,9 @@ module _ {net : Network} {n : ℕ} {limits a b profits : List ℕ} (held : HeldB
         cut-is = made .cut-is ∙ sym (ring-shown (held .book) ring);
       })
       (λ l. absurd (omega (arith, ring)))
+      (made .entries-end)
+      (λ l. absurd (omega (arith, ring)))
+      (λ l. no-prices)
 
 -- the test of 12 on the numbers that hold the book
 pub short-is :

@@ -3,6 +3,7 @@ use mathlib.Core.List.{List}
 use mathlib.Core.Path.{_≡_}
 use Prim.Native.Nat.{ℕ, _<_}
 use lib.ListN.{replicate}
+use Rattle.sums.specs.Vacant.{Vacant}
 use Rattle.book.specs.Book.{Book, spans, count, endA, endB}
 use Rattle.book.specs.Columns.{at}
 use Rattle.book.specs.Sound.{Sound}
@@ -36,7 +37,8 @@ pub record Refusing (n p : ℕ) (r : BookPlan) : Type 0 where
   pub no-entries : r .entries ≡ replicate 256 0
   pub no-prices : r .prices ≡ replicate 64 0
 
--- a plan of an accepted book: its numbers, its entries and, on a line, its prices
+-- a plan of an accepted book: its numbers, its entries and, on a line, its prices; past the requests and the spans, and on a ring in place of prices, there
+-- are only zeros
 pub record PlanOf (book : Book) (r : BookPlan) : Type 0 where
   pub earned : ℕ
   pub number : ℕ
@@ -50,6 +52,11 @@ pub record PlanOf (book : Book) (r : BookPlan) : Type 0 where
   pub count-is : r .count ≡ count book
   pub a-is : (i : ℕ) → i < count book → at (r .a) i ≡ endA book i
   pub b-is : (i : ℕ) → i < count book → at (r .b) i ≡ endB book i
+  pub a-end : Vacant 0 (count book) 256 (r .a)
+  pub b-end : Vacant 0 (count book) 256 (r .b)
+  pub entries-end : Vacant 0 (count book) 256 (r .entries)
+  pub line-prices-end : book .shape ≡ 1 → Vacant 0 (spans book) 64 (r .prices)
+  pub ring-prices : book .shape ≡ 2 → r .prices ≡ replicate 64 0
 
 -- the book's refusals and then 12, or a plan
 pub record BookPlanned (file : List ℕ) (entryPlaces pricePlaces : ℕ) (r : BookPlan) : Type 0 where

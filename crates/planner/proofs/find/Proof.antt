@@ -1,4 +1,5 @@
 -- `planner::find` meets its contract: what the planner of its shape promises is a plan of the book that the columns hold. Assumes nothing.
+use mathlib.Core.Path.{refl}
 use Rattle.planner.specs.Held.{held-line, held-ring, on-line, on-ring}
 use borrow.Author.Needs.{needs}
 use Rattle.planner.proofs.find.Statement.{statement}
@@ -18,7 +19,7 @@ plan-ring-requires c κs = held-ring (c .if1 .left) (c .before .before .pre)
 returns-2 : tie.Need-returns-2
 returns-2 c held =
     let shape = c .before .before .before .if1 .left in
-    on-ring held shape (c .before .before .plan-ring .ensures (held-ring shape held)) (c .answer-of2 .ensures)
+    on-ring held shape (c .before .before .plan-ring .ensures (held-ring shape held)) refl (c .answer-of2 .ensures)
 
 pub find-spec : {M : Type 1} → statement M
 find-spec = tie.close (tie.spec plan-line-requires (λ c κs. search needs) returns plan-ring-requires (λ c κs. search needs) returns-2)
