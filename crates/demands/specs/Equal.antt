@@ -1,12 +1,15 @@
 -- Two outcomes allowed by the same statement are equal (01, "How far the statements reach"): earnings and cut of two plans that the planner might hand back,
--- and, where they keep the same requests, their entries and numbers kept; and two accepted price lists of one book say yes to the same plans. Assumes nothing.
+-- and, where they keep the same requests, their entries and numbers kept, and with them all that is handed back but a line's prices; and two accepted price
+-- lists of one book say yes to the same plans. Assumes nothing.
 use mathlib.Core.Bool.{true}
 use mathlib.Core.Logic.{⊎-elim}
 use mathlib.Core.Path.{_≡_, refl, sym, ap, subst, _∙_}
 use Prim.Native.Nat.{ℕ, _<_}
 use native.Mathlib.Omega.{arith}
 use Rattle.sums.specs.Sums.{Σ-ext, bit}
-use Rattle.book.specs.Book.{Book, count}
+use Rattle.sums.specs.Vacant.{vacant-same}
+use Rattle.book.specs.Book.{Book, spans, count}
+use Rattle.book.specs.Columns.{at}
 use Rattle.book.specs.Sound.{Sound}
 use Rattle.rules.specs.Plans.{Plan, kept, numberKept, earnings, Best}
 use Rattle.rules.specs.Prices.{Prices, verdict}
@@ -22,6 +25,9 @@ use Rattle.rings.specs.CutLine.{cut-line, cut-count}
 use Rattle.rings.specs.Choice.{cut-in}
 use Rattle.rings.specs.Demand2.{earnings-once}
 use Rattle.rings.specs.Never15.{line-plan, ring-plan}
+use Rattle.planner.specs.declared.BookPlan.{BookPlan}
+use Rattle.planner.specs.Promise.{PlanOf}
+use Rattle.planner.specs.Cases.{is-plan, parts-same}
 
 module _ {book : Book} (sound : Sound book) {plan other : Plan} {earned number cut₁ earned′ number′ cut₂ : ℕ}
     (p : Planned book plan earned number cut₁) (q : Planned book other earned′ number′ cut₂)
@@ -70,3 +76,31 @@ module _ {book : Book} (sound : Sound book) {plan other : Plan} {earned number c
 -- two accepted price lists of one line say yes to the same plans
 pub prices-equal : {book : Book} → Line book → {plan plan′ : Plan} {prices prices′ : Prices} → Priced book plan prices → Priced book plan′ prices′ → (other : Plan) → verdict book other prices ≡ true → verdict book other prices′ ≡ true
 prices-equal on {plan′} {prices} {prices′} p q other e = yes-for-best on plan′ other prices′ (q .accepted) (yes-best on other prices e)
+
+-- ---- two values that the planner's promise allows for one book, where they keep the same requests
+
+module _ {book : Book} {r other : BookPlan} (p : PlanOf book r) (q : PlanOf book other)
+    (same : (i : ℕ) → i < count book → kept (at (r .entries)) i ≡ kept (at (other .entries)) i)
+  where
+    pub entry-lists-equal : r .entries ≡ other .entries
+    entry-lists-equal = vacant-same (p .entries-end) (q .entries-end) (entries-equal (p .sound) (p .planned) (q .planned) same)
+
+    -- they are one value, but for the prices of a line's spans, which 01 leaves open
+    pub plan-equal : (book .shape ≡ 1 → (j : ℕ) → j < spans book → at (r .prices) j ≡ at (other .prices) j) → r ≡ other
+    plan-equal prices =
+        let earned : p .earned ≡ q .earned = earned-equal (p .sound) (p .planned) (q .planned) in
+        let number : p .number ≡ q .number = number-equal (p .sound) (p .planned) (q .planned) same in
+        let cut : p .cut ≡ q .cut = cut-equal (p .sound) (p .planned) (q .planned) in
+        parts-same
+        (is-plan p ∙ rw (earned, number, cut) (sym (is-plan q)))
+        (p .shape-is ∙ sym (q .shape-is))
+        (p .spans-is ∙ sym (q .spans-is))
+        (p .count-is ∙ sym (q .count-is))
+        (vacant-same (p .a-end) (q .a-end) (λ i l. p .a-is i l ∙ sym (q .a-is i l)))
+        (vacant-same (p .b-end) (q .b-end) (λ i l. p .b-is i l ∙ sym (q .b-is i l)))
+        entry-lists-equal
+        (⊎-elim (λ e. vacant-same (p .line-prices-end e) (q .line-prices-end e) (prices e)) (λ e. p .ring-prices e ∙ sym (q .ring-prices e)) (p .sound .shaped))
+
+    -- on a ring nothing is left open
+    pub ring-plan-equal : book .shape ≡ 2 → r ≡ other
+    ring-plan-equal ring = plan-equal (λ line. absurd (omega (arith, ring)))

@@ -49,20 +49,27 @@ refusal-is (Refused refusal) {n} {p} says =
     let place : refusal .place ≡ p = cc in
     ap₂ (λ n p. Refused (record { number = n; place = p })) number place
 
--- two refusals by the same number and place are the same, with the zeros beside them
-pub refused-once : {n p : ℕ} {r other : BookPlan} → Refusing n p r → Refusing n p other → r ≡ other
-refused-once {r} {other} x y =
-    let answer : r .answer ≡ other .answer = refusal-is (r .answer) (x .says) ∙ sym (refusal-is (other .answer) (y .says)) in
-    let shape : r .shape ≡ other .shape = x .no-shape ∙ sym (y .no-shape) in
-    let spans : r .spans ≡ other .spans = x .no-spans ∙ sym (y .no-spans) in
-    let count : r .count ≡ other .count = x .no-requests ∙ sym (y .no-requests) in
-    let a : r .a ≡ other .a = x .no-first-ends ∙ sym (y .no-first-ends) in
-    let b : r .b ≡ other .b = x .no-second-ends ∙ sym (y .no-second-ends) in
-    let entries : r .entries ≡ other .entries = x .no-entries ∙ sym (y .no-entries) in
-    let prices : r .prices ≡ other .prices = x .no-prices ∙ sym (y .no-prices) in
+-- two values whose parts are the same are the same value
+pub parts-same :
+    {r other : BookPlan} → r .answer ≡ other .answer → r .shape ≡ other .shape → r .spans ≡ other .spans → r .count ≡ other .count → r .a ≡ other .a → r .b ≡ other .b
+    → r .entries ≡ other .entries → r .prices ≡ other .prices → r ≡ other
+parts-same {r} {other} answer shape spans count a b entries prices =
     let all : _≡_ {A = BookPlan} (record { answer = r .answer; shape = r .shape; spans = r .spans; count = r .count; a = r .a; b = r .b; entries = r .entries; prices = r .prices }) other =
     rw (answer, shape, spans, count, a, b, entries, prices) in
     all
+
+-- so are two refusals by the same number and place, with the zeros beside them
+pub refused-once : {n p : ℕ} {r other : BookPlan} → Refusing n p r → Refusing n p other → r ≡ other
+refused-once {r} {other} x y =
+    parts-same
+    (refusal-is (r .answer) (x .says) ∙ sym (refusal-is (other .answer) (y .says)))
+    (x .no-shape ∙ sym (y .no-shape))
+    (x .no-spans ∙ sym (y .no-spans))
+    (x .no-requests ∙ sym (y .no-requests))
+    (x .no-first-ends ∙ sym (y .no-first-ends))
+    (x .no-second-ends ∙ sym (y .no-second-ends))
+    (x .no-entries ∙ sym (y .no-entries))
+    (x .no-prices ∙ sym (y .no-prices))
 
 pub is-refused :
     {file : List ℕ} {entryPlaces pricePlaces : ℕ} {r : BookPlan} {refusal : Refusal} → BookPlanned file entryPlaces pricePlaces r → r .answer ≡ Refused refusal

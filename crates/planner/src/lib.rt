@@ -115,10 +115,11 @@ fn find(
     let plan = ring::plan_ring(net.nodes, net.channels, count, limits, a, b, profit);
     let solved = plan.answer;
     let entries = plan.entries;
+    let prices = [0usize; 64];
     Found {
         answer: answer_of(solved, plan.cut),
         entries,
-        prices: [0usize; 64],
+        prices,
     }
 }
 
