@@ -1,25 +1,24 @@
 -- The seam between the reader and what works on its book: where the reader accepts a file, its reading is a sound book, whose requests are lent as
 -- one list; the limits, and the columns made of that list, hold the book. Assumes nothing.
-use mathlib.Core.Path.{_≡_, refl, sym, ap, _∙_}
+use mathlib.Core.Path.{_≡_, refl, ap, _∙_}
 use mathlib.Core.List.{List}
-use Prim.Native.Nat.{ℕ, _≤_, _<_}
+use Prim.Native.Nat.{ℕ, _≤_}
 use native.Mathlib.Omega.{arith}
-use lib.ListN.{length, take, length-map, List·getD-map}
-use lib.Seq.{getD-take, length-take-le}
+use lib.ListN.{length}
 use Rattle.sums.specs.Vacant.{Vacant}
 use Rattle.book.specs.Book as Books
-use Rattle.book.specs.Book.{Book, spans, limit, endA, endB, profit}
+use Rattle.book.specs.Book.{Book, endA, endB, profit}
 use Rattle.book.specs.Reading.{done, reading}
 use Rattle.book.specs.Sound.{Sound, sound}
-use Rattle.book.specs.Columns.{at, Holds}
+use Rattle.book.specs.Columns.{Holds}
 use Rattle.records.specs.declared.Network.{Network}
 use Rattle.records.specs.declared.Request.{Request}
 use Rattle.reader.specs.declared.Taken.{Taken}
 use Rattle.reader.specs.declared.Answer.the-variants.{Accepted}
-use Rattle.reader.specs.Says.{plain, bookFrom, Reads}
-use Rattle.reader.specs.Accepted.{accepted-read}
+use Rattle.reader.specs.Says.{bookFrom, Reads}
+use Rattle.reader.specs.Accepted.{accepted-read, made-count, made-limit, made-request}
 use Rattle.columns.specs.declared.RequestColumns.{RequestColumns}
-use Rattle.columns.specs.Columned.{Columned, CanColumn, request}
+use Rattle.columns.specs.Columned.{Columned, CanColumn}
 
 -- an accepted book, with the numbers that hold it; past the count the ends are 0
 pub record HeldBook (net : Network) (count : ℕ) (limits a b profits : List ℕ) : Type 0 where
@@ -33,28 +32,16 @@ pub record HeldBook (net : Network) (count : ℕ) (limits a b profits : List ℕ
   pub b-end : Vacant 0 count 256 b
 
 module _ (net : Network) (limits : List ℕ) (count : ℕ) (requests : List Request) where
-  made-count : count ≤ length requests → count ≡ Books.count (bookFrom net limits count requests)
-  unfolding bookFrom Books.count
-  made-count l = simp (length-map, length-take-le)
-
-  made-limit : (s : ℕ) → s < spans (bookFrom net limits count requests) → at limits s ≡ limit (bookFrom net limits count requests) s
-  unfolding bookFrom spans limit
-  made-limit s h = sym (getD-take _ limits s 0 h)
-
-  made-request : (i : ℕ) → i < count → plain (request requests i) ≡ Books.request (bookFrom net limits count requests) i
-  unfolding bookFrom
-  made-request i h = sym (List·getD-map plain (take count requests) i _ ∙ ap plain (getD-take count requests i _ h))
-
   pub made-holds :
       {cols : RequestColumns} → count ≤ length requests → Columned requests count cols
       → Holds (bookFrom net limits count requests) count limits (cols .a) (cols .b) (cols .profit)
   unfolding endA endB profit
   made-holds l made = record {
-    counted = made-count l;
-    limit-is = made-limit;
-    a-is = λ i h. made .a-is .is i h ∙ ap (λ (q : Books.Request). q .a) (made-request i h);
-    b-is = λ i h. made .b-is .is i h ∙ ap (λ (q : Books.Request). q .b) (made-request i h);
-    profit-is = λ i h. made .profit-is .is i h ∙ ap (λ (q : Books.Request). q .profit) (made-request i h);
+    counted = made-count net limits count requests l;
+    limit-is = made-limit net limits count requests;
+    a-is = λ i h. made .a-is .is i h ∙ ap (λ (q : Books.Request). q .a) (made-request net limits count requests i h);
+    b-is = λ i h. made .b-is .is i h ∙ ap (λ (q : Books.Request). q .b) (made-request net limits count requests i h);
+    profit-is = λ i h. made .profit-is .is i h ∙ ap (λ (q : Books.Request). q .profit) (made-request net limits count requests i h);
   }
 
 -- an accepted book whose requests are lent
@@ -83,4 +70,4 @@ pub accepted :
     → LentBook net (taken .limits) (taken .requests) (taken .count) × (reading file ≡ done (bookFrom net (taken .limits) (taken .count) (taken .requests)))
 accepted {file} {taken} {net} reads e =
     let read = accepted-read reads e in
-    (record { can = record { few = reads .counted; there = omega (arith, reads .counted, reads .sized) }; sound = sound file _ read }, read)
+    (record { can = record { few = reads .counted; there = omega (arith, reads .counted, reads .no-more-requests .long) }; sound = sound file _ read }, read)

@@ -1,17 +1,14 @@
--- Two outcomes allowed by the same statement are equal (01, "How far the statements reach"), as far as refusals go: of reading and of
--- the planner with all that stands beside the refusal, of the checker, and at the desk's boundary with the later content of both lists. Assumes nothing.
+-- Two outcomes allowed by the same statement are equal (01, "How far the statements reach"): of reading and of the checker, accepted or refused; as far as
+-- refusals go, of the planner with all that stands beside the refusal, and at the desk's boundary with the later content of both lists. Assumes nothing.
 use mathlib.Core.List.{List}
-use mathlib.Core.Path.{_≡_, sym, ap₂, _∙_}
+use mathlib.Core.Path.{_≡_, sym, _∙_}
 use Prim.Native.Nat.{ℕ}
-use Rattle.book.specs.Reading.{refused, reading, refused-not-done}
+use Rattle.book.specs.Reading.{refused}
 use Rattle.rules.specs.Operations.{plannable, checker}
 use Rattle.records.specs.declared.Refusal.{Refusal}
-use Rattle.records.specs.declared.Request.{Request}
 use Rattle.reader.specs.declared.Taken.{Taken}
-use Rattle.reader.specs.declared.Answer as Reader
-use Rattle.reader.specs.declared.Answer.the-variants as Readers
-use Rattle.reader.specs.Says.{outcomeOf, Reads}
-use Rattle.reader.specs.Accepted.{refused-read}
+use Rattle.reader.specs.Says.{Reads}
+use Rattle.reader.specs.Accepted.{taken-once}
 use Rattle.verdict.specs.declared.Checked.{Checked}
 use Rattle.verdict.specs.Checked.{checkedOf, same-checked}
 use Rattle.planner.specs.declared.Answer.the-variants as Planner
@@ -20,35 +17,9 @@ use Rattle.planner.specs.Promise.{BookPlanned}
 use Rattle.planner.specs.Cases.{is-refused, refused-once}
 use Rattle.desk.specs.Promise.{PlanAnswer}
 
--- reading: the same book, or the same number and place
-pub read-equal :
-    {file : List ℕ} {taken other : Taken} → Reads file taken → Reads file other
-    → outcomeOf (taken .answer) (taken .limits) (taken .count) (taken .requests) ≡ outcomeOf (other .answer) (other .limits) (other .count) (other .requests)
-read-equal p q = p .says ∙ sym (q .says)
-
--- and where one is refused, all that stands beside the answer is the same too
-same-refusal :
-    (answer : Reader.Answer) (limits : List ℕ) (count : ℕ) (requests : List Request) {n p : ℕ} → outcomeOf answer limits count requests ≡ refused n p
-    → answer ≡ Readers.Refused (record { number = n; place = p })
-unfolding outcomeOf
-same-refusal (Readers.Accepted net) limits count requests is = absurd (refused-not-done (sym is))
-same-refusal (Readers.Refused refusal) limits count requests {n} {p} is =
-    let number : refusal .number ≡ n = cc in
-    let place : refusal .place ≡ p = cc in
-    ap₂ (λ n p. Readers.Refused (record { number = n; place = p })) number place
-
-pub read-refusal-equal : {file : List ℕ} {taken other : Taken} {refusal : Refusal} → Reads file taken → Reads file other → taken .answer ≡ Readers.Refused refusal → taken ≡ other
-read-refusal-equal {file} {taken} {other} {refusal} p q e =
-    let is : reading file ≡ refused (refusal .number) (refusal .place) = refused-read p e in
-    let its : other .answer ≡ Readers.Refused refusal = same-refusal (other .answer) (other .limits) (other .count) (other .requests) (q .says ∙ is) in
-    let x = p .refusing refusal e in
-    let y = q .refusing refusal its in
-    let answer : taken .answer ≡ other .answer = e ∙ sym its in
-    let limits : taken .limits ≡ other .limits = x .no-limits ∙ sym (y .no-limits) in
-    let count : taken .count ≡ other .count = x .no-count ∙ sym (y .no-count) in
-    let requests : taken .requests ≡ other .requests = x .no-requests ∙ sym (y .no-requests) in
-    let all : _≡_ {A = Taken} (record { answer = taken .answer; limits = taken .limits; count = taken .count; requests = taken .requests }) other = rw (answer, limits, count, requests) in
-    all
+-- reading: the same value, with all that stands beside the answer, accepted or refused
+pub read-equal : {file : List ℕ} {taken other : Taken} → Reads file taken → Reads file other → taken ≡ other
+read-equal p q = taken-once p q
 
 -- the checker: the same answer, a refusal with its number and place included
 pub checked-equal :

@@ -1,8 +1,9 @@
 -- What the reader's answers mean: for every case of its enums the numbers and values of document 01. Assumes nothing.
 use mathlib.Core.Path.{_≡_}
 use mathlib.Core.List.{List, map}
-use Prim.Native.Nat.{ℕ, _≤_}
-use lib.ListN.{length, take, replicate}
+use Prim.Native.Nat.{ℕ, _≤_, _<_}
+use lib.ListN.{getD, take, replicate}
+use Rattle.sums.specs.Vacant.{Vacant}
 use Rattle.book.specs.Book as B
 use Rattle.book.specs.Reading.{Outcome, done, refused, reading}
 use Rattle.records.specs.declared.Network.{Network}
@@ -41,12 +42,16 @@ pub record NothingBeside (taken : Taken) : Type 0 where
   pub no-count : taken .count ≡ 0
   pub no-requests : taken .requests ≡ replicate 256 noRequest
 
--- the reader's promise: its answer is the reading of document 01, and of a refused book nothing is handed on
+-- the reader's promise: its answer is the reading of document 01, and of a refused book nothing is handed on. It leaves no value open (`taken-once`).
 pub record Reads (file : List ℕ) (taken : Taken) : Type 0 where
   pub says : outcomeOf (taken .answer) (taken .limits) (taken .count) (taken .requests) ≡ reading file
   pub refusing : (refusal : Refusal) → taken .answer ≡ Refused refusal → NothingBeside taken
   pub counted : taken .count ≤ 256
-  pub sized : length (taken .requests) ≡ 256
+  -- each request has its own number
+  pub numbered : (i : ℕ) → i < taken .count → getD (taken .requests) i noRequest .number ≡ i
+  -- and past the requests, and past an accepted network's limits, there is nothing
+  pub no-more-requests : Vacant noRequest (taken .count) 256 (taken .requests)
+  pub no-more-limits : (network : Network) → taken .answer ≡ Accepted network → Vacant 0 (B.spansOf (network .shape) (network .nodes)) 64 (taken .limits)
 
 -- nothing was read, and this is why
 pub record Unread (answer : Answer) (taken : Taken) : Type 0 where

@@ -1,5 +1,5 @@
 -- Records of one kind read in turn into a list, the first fault ending the reading (document 01, "Refusals by number"). What holds after i
--- records, none of them refused and each entry standing in the list, is kept by one more record, and at the end it is the answer.
+-- records, none of them refused, each entry standing in the list and nothing past them, is kept by one more record, and at the end it is the answer.
 -- Assumes nothing.
 use mathlib.Core.Path.{_≡_, refl, sym, ap, subst, _∙_}
 use mathlib.Core.Bool.{Bool, true, false, not}
@@ -9,10 +9,11 @@ use Prim.Native.Nat.{ℕ, _+_, _<_}
 use native.Mathlib.Omega.{arith}
 use borrow.Author.Count.{below-more}
 use borrow.Author.Tests.{eq-eqb}
-use lib.ListN.{length, getD, set, length-set}
+use lib.ListN.{getD, set}
 use lib.Dec.{T, eqb, T-not}
 use Rattle.sums.specs.Each.{of-yes}
 use Rattle.sums.specs.Filled.{stored}
+use Rattle.sums.specs.Vacant.{Vacant, vacant-more}
 use Rattle.records.specs.declared.Network.{Network}
 use Rattle.records.specs.declared.Refusal.{Refusal}
 use Rattle.records.specs.declared.Reading.{Reading}
@@ -57,41 +58,40 @@ InTurn says n network (answer.Refused refusal) = Stopped says n refusal
 
 -- ---- the list
 
--- what is read in turn: each reading, how long the list is, what an entry of it means, and what it should mean
-pub record Series (A B : Type 0) : Type 0 where
+-- what is read in turn: each reading, how long the list is, what an entry holds before it is read, and what it should hold
+pub record Series (A : Type 0) : Type 0 where
   pub says : ℕ → Reading
   pub room : ℕ
   pub empty : A
-  pub means : A → B
-  pub wants : ℕ → B
+  pub wants : ℕ → A
 
 -- the first n entries are as they should be
-abbrev pub AllMeant : {A B : Type 0} → Series A B → List A → ℕ → Type 0
-AllMeant s l n = (i : ℕ) → i < n → s .means (getD l i (s .empty)) ≡ s .wants i
+abbrev pub AllMeant : {A : Type 0} → Series A → List A → ℕ → Type 0
+AllMeant s l n = (i : ℕ) → i < n → getD l i (s .empty) ≡ s .wants i
 
 -- after n records
-pub record SoFar {A B : Type 0} (s : Series A B) (l : List A) (n : ℕ) : Type 0 where
-  pub sized : length l ≡ s .room
+pub record SoFar {A : Type 0} (s : Series A) (l : List A) (n : ℕ) : Type 0 where
   pub got : AllGot (s .says) n
   pub filled : AllMeant s l n
+  pub no-more : Vacant (s .empty) n (s .room) l
 
 -- at the end
-pub record InList {A B : Type 0} (s : Series A B) (n : ℕ) (network : Network) (answer : Answer) (l : List A) : Type 0 where
-  pub sized : length l ≡ s .room
+pub record InList {A : Type 0} (s : Series A) (n : ℕ) (network : Network) (answer : Answer) (l : List A) : Type 0 where
   pub turn : InTurn (s .says) n network answer
   pub filled : accepted answer ≡ true → AllMeant s l n
+  pub no-more : accepted answer ≡ true → Vacant (s .empty) n (s .room) l
 
-module _ {A B : Type 0} (s : Series A B) where
-  pub so-far-none : (l : List A) → length l ≡ s .room → SoFar s l 0
-  so-far-none l e = record { sized = e; got = λ i h. absurd (omega arith); filled = λ i h. absurd (omega arith) }
+module _ {A : Type 0} (s : Series A) where
+  pub so-far-none : (l : List A) → Vacant (s .empty) 0 (s .room) l → SoFar s l 0
+  so-far-none l e = record { got = λ i h. absurd (omega arith); filled = λ i h. absurd (omega arith); no-more = e }
 
   pub so-far-more :
-      (l : List A) (n : ℕ) (v : A) → SoFar s l n → n < s .room → isGot (s .says n) ≡ true → s .means v ≡ s .wants n → SoFar s (set l n v) (n + 1)
+      (l : List A) (n : ℕ) (v : A) → SoFar s l n → n < s .room → isGot (s .says n) ≡ true → v ≡ s .wants n → SoFar s (set l n v) (n + 1)
   so-far-more l n v p h e m =
       record {
-        sized = length-set l n v ∙ p .sized;
         got = below-more _ n (p .got) e;
-        filled = stored (s .means) (s .wants) l (s .empty) (p .filled) (omega arith) v m;
+        filled = stored (λ x. x) (s .wants) l (s .empty) (p .filled) (omega (arith, p .no-more .long)) v m;
+        no-more = vacant-more (p .no-more) v;
       }
 
   pub stopped-here :
@@ -99,10 +99,15 @@ module _ {A B : Type 0} (s : Series A B) where
       → SoFar s l k → k < n → r ≡ s .says k → r ≡ reading.Refused told → refusal ≡ refusalOf r → InList s n network (answer.Refused refusal) l
   stopped-here l n k network r refusal told p h is e told-is =
       record {
-        sized = p .sized;
         turn = record { at = k; within = h; here = the-refusal r (s .says k) told refusal is e told-is; before = p .got };
         filled = λ t. absurd (of-yes t);
+        no-more = λ t. absurd (of-yes t);
       }
 
   pub all-read : (l : List A) (n k : ℕ) (network : Network) → SoFar s l k → k ≡ n → InList s n network (answer.Accepted network) l
-  all-read l n k network p e = record { sized = p .sized; turn = (refl, subst (AllGot (s .says)) e (p .got)); filled = λ t. subst (AllMeant s l) e (p .filled) }
+  all-read l n k network p e =
+      record {
+        turn = (refl, subst (AllGot (s .says)) e (p .got));
+        filled = λ t. subst (AllMeant s l) e (p .filled);
+        no-more = λ t. subst (λ (m : ℕ). Vacant (s .empty) m (s .room) l) e (p .no-more);
+      }

@@ -15,9 +15,9 @@ use Rattle.records.specs.Records.{spanIn, spanRow, spanRecordAt, answer-got}
 use Rattle.reader.specs.declared.spans.Limits.{Limits}
 use Rattle.reader.specs.Series.{Series, SoFar, InList, isGot, so-far-more}
 
-abbrev pub spanSeries : List ℕ → ℕ → Series ℕ ℕ
+abbrev pub spanSeries : List ℕ → ℕ → Series ℕ
 spanSeries f channels =
-    record { says = λ s. spanRecordAt f (1 + s) channels; room = 64; empty = 0; means = λ limit. limit; wants = λ s. limitIn f (1 + s) }
+    record { says = λ s. spanRecordAt f (1 + s) channels; room = 64; empty = 0; wants = λ s. limitIn f (1 + s) }
 
 abbrev pub SpansRead : List ℕ → Network → ℕ → Limits → Type 0
 SpansRead f network spans read = InList (spanSeries f (network .channels)) spans network (read .answer) (read .limits)

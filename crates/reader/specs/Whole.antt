@@ -4,9 +4,10 @@ use mathlib.Core.Path.{_≡_, sym, ap, ap₂, subst, _∙_}
 use mathlib.Core.List.{List, map, map-id}
 use Prim.Native.Nat.{ℕ, _+_, _-_, _*_, _≤_, _<_}
 use native.Mathlib.Omega.{arith}
-use lib.ListN.{length, getD, take, drop, length-map, List·getD-map, length-replicate}
+use lib.ListN.{length, getD, take, drop, length-map, List·getD-map}
 use lib.Seq.{getD-take, ext-getD, length-take-le}
 use Rattle.sums.specs.Table.{table, length-table, table-at}
+use Rattle.sums.specs.Vacant.{Vacant, vacant-new}
 use Rattle.book.specs.Book as B
 use Rattle.book.specs.Refusals.{start, records, shapeIn, nodesIn, channelsIn, spansIn, limitIn}
 use Rattle.book.specs.Reading.{done, refused, requestOf, bookOf, reading}
@@ -27,7 +28,7 @@ use Rattle.reader.specs.declared.requests.Orders.{Orders}
 use Rattle.reader.specs.Says.{Reads, Unread, noRequest, plain, bookFrom, outcomeOf}
 use Rattle.reader.specs.Series.{AllGot, InTurn, AllMeant, accepted}
 use Rattle.reader.specs.Spans.{SpansRead, spanSeries}
-use Rattle.reader.specs.Orders.{OrdersRead, requestSeries}
+use Rattle.reader.specs.Orders.{OrdersRead, requestRead, requestSeries}
 use Rattle.reader.specs.WaysOut.{Headed, headed, got-network, spanSays, requestSays, part-there, afterSpans, spans-refused, requests-refused, all-clean}
 
 -- ---- the lists
@@ -54,7 +55,7 @@ limits-are :
     → take (spansIn f) limits ≡ table (spansIn f) (λ s. limitIn f (1 + s))
 limits-are f limits h p = sym (map-id (take (spansIn f) limits)) ∙ made-table (λ limit. limit) 0 (λ s. limitIn f (1 + s)) limits (spansIn f) h p
 
-request-part : (f : List ℕ) (b i : ℕ) → requestOf (drop (start b) f) i ≡ requestOf f (b + i)
+request-part : (f : List ℕ) (b i : ℕ) → plain (requestRead (drop (start b) f) i) ≡ requestOf f (b + i)
 unfolding requestOf
 request-part f b i = rw (a-part f b i, b-part f b i, profit-part f b i)
 
@@ -64,7 +65,7 @@ requests-are :
     → AllMeant (requestSeries (drop (start b) f) b (nodesIn f)) requests n
     → map plain (take n requests) ≡ table n (λ i. requestOf f (b + i))
 requests-are f b n requests h p =
-    made-table plain noRequest (λ i. requestOf f (b + i)) requests n h (λ i k. p i k ∙ request-part f b i)
+    made-table plain noRequest (λ i. requestOf f (b + i)) requests n h (λ i k. ap plain (p i k) ∙ request-part f b i)
 
 book-is :
     (f limits : List ℕ) (requests : List Request)
@@ -91,7 +92,9 @@ not-read f answer taken refusal u e r =
       says = rw (u .because, e) (sym r);
       refusing = λ _ _. u .nothing;
       counted = omega (arith, u .nothing .no-count);
-      sized = rw (u .nothing .no-requests) (length-replicate 256 noRequest);
+      numbered = λ i h. absurd (omega (arith, u .nothing .no-count));
+      no-more-requests = rw (u .nothing .no-requests) (vacant-new noRequest (taken .count) 256);
+      no-more-limits = λ network _. rw (u .nothing .no-limits) (vacant-new 0 (B.spansOf (network .shape) (network .nodes)) 64);
     }
 
 -- the network was got, and has n spans
@@ -140,17 +143,19 @@ module _ (f : List ℕ) (network : Network) (n : ℕ) (so-far : Begun f network 
       refused-in-requests refusal r = requests-refused f head all-spans refusal (rw r at (requests-read .inList .turn))
 
       pub book-read : (t : Network) → orders .answer ≡ Accepted t → Reads f (record { answer = orders .answer; limits = limits .limits; count = orders .count; requests = orders .requests })
-      unfolding outcomeOf
+      unfolding outcomeOf spansIn
       book-read t a =
           record {
             says =
                 rw (a, turn .0, all)
                 (ap done
-                (book-is f (limits .limits) (orders .requests) (omega (arith, head .most, spans-read .sized)) (spans-read .filled (ap accepted e)) (omega (arith, all, o .within, o .inList .sized)) (requests-read .inList .filled (ap accepted a)))
+                (book-is f (limits .limits) (orders .requests) (omega (arith, head .most, limits-end .long)) (spans-read .filled (ap accepted e)) (omega (arith, all, o .within, requests-end .long)) (requests-read .inList .filled (ap accepted a)))
                 ∙ sym (all-clean f head all-spans (turn .1)));
             refusing = λ refusal r. let z : _≡_ {A = ℕ} 0 1 = cc in absurd (omega arith);
             counted = o .within;
-            sized = o .inList .sized;
+            numbered = λ i h. ap (λ (q : Request). q .number) (requests-read .inList .filled (ap accepted a) i (omega (arith, all)));
+            no-more-requests = requests-end;
+            no-more-limits = λ t' a'. let same : t' ≡ networkIn f = cc (turn .0) in rw same limits-end;
           }
         where
           turn : InTurn (requestSays f) (records (afterSpans f)) (networkIn f) (Accepted t)
@@ -158,3 +163,9 @@ module _ (f : List ℕ) (network : Network) (n : ℕ) (so-far : Begun f network 
 
           all : orders .count ≡ records (afterSpans f)
           all = requests-read .all (ap accepted a)
+
+          requests-end : Vacant noRequest (orders .count) 256 (orders .requests)
+          requests-end = rw all (requests-read .inList .no-more (ap accepted a))
+
+          limits-end : Vacant 0 (spansIn f) 64 (limits .limits)
+          limits-end = spans-read .no-more (ap accepted e)

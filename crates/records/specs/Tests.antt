@@ -36,6 +36,12 @@ unfolding lowest
 first-passed true n ts h l = absurd (omega arith)
 first-passed false n ts h l = refl
 
+-- nor does a later one
+pub rest-passed : (t : Bool) (n : ℕ) (ts : List Test) → n < 12 → 12 ≤ lowest ((t ⇒ n) ∷ ts) → 12 ≤ lowest ts
+unfolding lowest
+rest-passed true n ts h l = absurd (omega arith)
+rest-passed false n ts h l = l
+
 pub none : 12 ≡ lowest []
 unfolding lowest
 none = refl

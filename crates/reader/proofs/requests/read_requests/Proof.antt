@@ -6,7 +6,9 @@ use native.Mathlib.Omega.{arith}
 use borrow.Author.Needs.{needs}
 use lib.ListN.{replicate}
 use Rattle.sums.specs.Each.{of-yes}
+use Rattle.sums.specs.Vacant.{vacant-new}
 use Rattle.book.specs.Refusals.{records}
+use Rattle.reader.specs.Says.{noRequest}
 use Rattle.reader.specs.Series.{SoFar, no-other, so-far-none, stopped-here, all-read}
 use Rattle.reader.specs.Orders.{requestSeries, got-request, request-within, request-more}
 use Rattle.reader.proofs.requests.read_requests.Statement.{statement}
@@ -19,7 +21,7 @@ abbrev μ-loop : tie.MeasureT-loop
 μ-loop part before network nodes requests₀ count i₀ requests i = count - i
 
 loop-holds : tie.Need-loop-holds Inv-loop μ-loop
-loop-holds c = (omega arith, omega arith, so-far-none _ (replicate 256 _) refl)
+loop-holds c = (omega arith, omega arith, so-far-none _ (replicate 256 _) (rw (c .no-request .ensures) (vacant-new noRequest 0 256)))
 
 returns : tie.Need-returns Inv-loop μ-loop
 unfolding records

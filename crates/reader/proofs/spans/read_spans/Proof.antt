@@ -1,9 +1,10 @@
 -- `reader::spans::read_spans` meets its contract: every span passed was got, and its limit stands in the list. Assumes nothing.
-use mathlib.Core.Path.{refl, _∙_}
+use mathlib.Core.Path.{_∙_}
 use lib.ListN.{replicate}
 use Prim.Native.Nat.{_+_, _-_, _≤_, _<_}
 use native.Mathlib.Omega.{arith}
 use borrow.Author.Needs.{needs}
+use Rattle.sums.specs.Vacant.{vacant-new}
 use Rattle.reader.specs.Series.{SoFar, no-other, so-far-none, stopped-here, all-read}
 use Rattle.reader.specs.Spans.{spanSeries, span-due, got-span, span-more}
 use Rattle.reader.proofs.spans.read_spans.Statement.{statement}
@@ -16,7 +17,7 @@ abbrev μ-loop : tie.MeasureT-loop
 μ-loop file network spans channels limits₀ at₀ limits at = spans + 1 - at
 
 loop-holds : tie.Need-loop-holds Inv-loop μ-loop
-loop-holds c = (omega arith, omega arith, so-far-none _ (replicate 64 0) refl)
+loop-holds c = (omega arith, omega arith, so-far-none _ (replicate 64 _) (vacant-new 0 0 64))
 
 through-view-requires : tie.Need-through-view-requires Inv-loop μ-loop
 through-view-requires c κs = (omega arith, omega arith)
