@@ -8,7 +8,7 @@ use mathlib.Core.Logic.{⊎-elim}
 use Prim.Native.Nat.{ℕ, _≤_, _<_}
 use native.Mathlib.Omega.{arith}
 use borrow.Author.Tests.{ltb-true, ltb-false, lt-ltb, le-ltb}
-use Rattle.sums.specs.Each.{Sought, sought, first-is, less-or-not, of-yes, fails}
+use Rattle.sums.specs.Each.{before-first, first-passes, first-here, first-none, less-or-not, of-yes}
 use Rattle.book.specs.Book.{Book}
 use Rattle.book.specs.Refusals.{records, spansIn, broken, fault, faulty}
 use Rattle.book.specs.Reading.{done, refused, due, bookOf, faultyRecord, reading, refused-not-done}
@@ -32,25 +32,22 @@ present-looked-at f r h = omega arith
 
 -- ---- the two searches
 
--- the first broken row of record r
-lowest : (f : List ℕ) (r : ℕ) → Sought 12 0 (broken f r) (fault f r)
-unfolding fault
-lowest f r = sought 12 0 (broken f r)
-
--- the first faulty record
-earliest : (f : List ℕ) → Sought (due f) 0 (faulty f) (faultyRecord f)
-unfolding faultyRecord
-earliest f = sought (due f) 0 (faulty f)
-
 -- a record that is not faulty breaks no row, and one that breaks no row is not faulty
 pub unbroken : (f : List ℕ) (r : ℕ) → faulty f r ≡ false → (m : ℕ) → m < 12 → broken f r m ≡ false
-unbroken f r e m h = lowest f r .passed m (omega arith) (omega (arith, ltb-false (fault f r) 12 e))
+unfolding fault
+unbroken f r e m h = before-first 12 (broken f r) m (omega (arith, ltb-false (fault f r) 12 e))
 
 pub faultless : (f : List ℕ) (r : ℕ) → ((m : ℕ) → m < 12 → broken f r m ≡ false) → faulty f r ≡ false
-faultless f r none = fails (λ e. clash (ltb-true (fault f r) 12 e))
-  where
-    clash : fault f r < 12 → ⊥
-    clash h = of-yes (sym (none (fault f r) h) ∙ lowest f r .passes (omega arith))
+unfolding fault
+faultless f r none = le-ltb (fault f r) 12 (omega (arith, first-none 12 (broken f r) none))
+
+-- no record before record r is faulty
+abbrev pub Clean : List ℕ → ℕ → Type 0
+Clean f r = (q : ℕ) → q < r → faulty f q ≡ false
+
+clean-upto : (f : List ℕ) → Clean f (faultyRecord f)
+unfolding faultyRecord
+clean-upto f = before-first (due f) (faulty f)
 
 -- ---- what the reading comes to
 
@@ -64,17 +61,22 @@ finished f h = rw (le-ltb (faultyRecord f) (due f) h)
 
 -- the first broken row of the first faulty record
 found : (f : List ℕ) → faultyRecord f < due f → Given f (fault f (faultyRecord f)) (faultyRecord f)
+unfolding fault faultyRecord
 found f h =
+    let q : ℕ = faultyRecord f in
+    let l : fault f q < 12 = ltb-true (fault f q) 12 (first-passes (due f) (faulty f) h) in
     record {
-      in-table = ltb-true (fault f q) 12 (earliest f .passes (omega arith));
+      in-table = l;
       looked-at = h;
-      here = lowest f q .passes (omega (arith, ltb-true (fault f q) 12 (earliest f .passes (omega arith))));
-      lower = λ m l. lowest f q .passed m (omega arith) l;
-      before = λ r m l. unbroken f r (earliest f .passed r (omega arith) l) m;
+      here = first-passes 12 (broken f q) l;
+      lower = before-first 12 (broken f q);
+      before = λ r m k. unbroken f r (clean-upto f r k) m;
     }
-  where
-    q : ℕ
-    q = faultyRecord f
+
+-- the first faulty record gives the refusal
+pub first-fault : (f : List ℕ) (r : ℕ) → r < due f → fault f r < 12 → Clean f r → reading f ≡ refused (fault f r) r
+unfolding reading faultyRecord
+first-fault f r h l clean = rw (first-here (due f) (faulty f) r (omega arith) clean (λ _. lt-ltb (fault f r) 12 l), lt-ltb r (due f) h)
 
 -- ---- the laws
 
@@ -87,31 +89,21 @@ refused-given f n p e = ⊎-elim given (λ h. absurd (refused-not-done (sym e �
         let place : faultyRecord f ≡ p = cc (stopped f h) in
         subst₂ (Given f) number place (found f h)
 
--- the first broken row and the first faulty record are those that `Given` names
-number-is : (f : List ℕ) (n p : ℕ) → Given f n p → fault f p ≡ n
-unfolding fault
-number-is f n p g = first-is 12 (broken f p) n (record { from = omega arith; upto = omega arith; passed = λ m l. g .lower m; passes = λ h. g .here })
-
-place-is : (f : List ℕ) (n p : ℕ) → Given f n p → faultyRecord f ≡ p
-unfolding faultyRecord
-place-is f n p g =
-    first-is (due f) (faulty f) p
-    (record { from = omega arith; upto = omega arith; passed = λ r l h. faultless f r (λ m. g .before r m h); passes = λ h. lt-ltb (fault f p) 12 (omega (arith, number-is f n p g)) })
-
 pub given-refused : (f : List ℕ) (n p : ℕ) → Given f n p → reading f ≡ refused n p
-given-refused f n p g = stopped f (omega (arith, place-is f n p g)) ∙ rw (place-is f n p g, number-is f n p g)
+unfolding fault
+given-refused f n p g =
+    let row : fault f p ≡ n = first-here 12 (broken f p) n (omega arith) (g .lower) (λ _. g .here) in
+    first-fault f p (g .looked-at) (omega arith) (λ r h. faultless f r (λ m. g .before r m h)) ∙ rw row
 
 pub read-clean : (f : List ℕ) (book : Book) → reading f ≡ done book → (book ≡ bookOf f) × ((r m : ℕ) → r < due f → m < 12 → broken f r m ≡ false)
 read-clean f book e = ⊎-elim (λ h. absurd (refused-not-done (sym (stopped f h) ∙ e))) clean (less-or-not (faultyRecord f) (due f))
   where
     clean : due f ≤ faultyRecord f → (book ≡ bookOf f) × ((r m : ℕ) → r < due f → m < 12 → broken f r m ≡ false)
-    clean h = (cc (finished f h), λ r m l. unbroken f r (earliest f .passed r (omega arith) (omega arith)) m)
+    clean h = (cc (finished f h), λ r m l. unbroken f r (clean-upto f r (omega arith)) m)
 
-pub clean-read : (f : List ℕ) → ((r : ℕ) → r < due f → faulty f r ≡ false) → reading f ≡ done (bookOf f)
-clean-read f none = ⊎-elim (λ h. absurd (clash h)) (finished f) (less-or-not (faultyRecord f) (due f))
-  where
-    clash : faultyRecord f < due f → ⊥
-    clash h = of-yes (sym (none (faultyRecord f) h) ∙ earliest f .passes (omega arith))
+pub clean-read : (f : List ℕ) → Clean f (due f) → reading f ≡ done (bookOf f)
+unfolding faultyRecord
+clean-read f clean = finished f (omega (arith, first-none (due f) (faulty f) clean))
 
 -- a broken row anywhere among the records looked at: no book is read, whatever else the file holds
 pub broken-unread : (f : List ℕ) (r n : ℕ) → r < due f → n < 12 → broken f r n ≡ true → (book : Book) → reading f ≡ done book → ⊥

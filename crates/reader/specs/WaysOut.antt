@@ -6,13 +6,12 @@ use mathlib.Core.List.{List}
 use mathlib.Core.Logic.{inl, inr, ⊎-elim}
 use Prim.Native.Nat.{ℕ, _+_, _-_, _≤_, _<_}
 use native.Mathlib.Omega.{arith}
-use borrow.Author.Tests.{lt-ltb}
 use lib.ListN.{length, drop}
 use lib.Dec.{ltb}
-use Rattle.sums.specs.Each.{first-is, less-or-not, not-above, decided, of-yes}
+use Rattle.sums.specs.Each.{less-or-not, not-above, decided, of-yes}
 use Rattle.book.specs.Refusals.{start, records, shapeIn, nodesIn, channelsIn, spansIn, fault, faulty}
-use Rattle.book.specs.Reading.{done, refused, due, bookOf, faultyRecord, reading}
-use Rattle.book.specs.Laws.{unbroken, clean-read, span-looked-at, present-looked-at}
+use Rattle.book.specs.Reading.{done, refused, due, bookOf, reading}
+use Rattle.book.specs.Laws.{Clean, unbroken, first-fault, clean-read, span-looked-at, present-looked-at}
 use Rattle.book.specs.Means.{not-so}
 use Rattle.book.specs.InWords.{Row3, Row5, row-3, row-5}
 use Rattle.book.specs.Sound.{spans-least, spans-small}
@@ -29,18 +28,6 @@ use Rattle.reader.specs.Spans.{spanSeries}
 use Rattle.reader.specs.Orders.{requestSeries}
 
 -- ---- one record
-
--- no record before record r is faulty
-abbrev pub Clean : List ℕ → ℕ → Type 0
-Clean f r = (q : ℕ) → q < r → faulty f q ≡ false
-
--- the first faulty record gives the refusal
-first-fault : (f : List ℕ) (r : ℕ) → r < due f → fault f r < 12 → Clean f r → reading f ≡ refused (fault f r) r
-unfolding reading faultyRecord
-first-fault f r h l clean = rw (found, lt-ltb r (due f) h)
-  where
-    found : faultyRecord f ≡ r
-    found = first-is (due f) (faulty f) r (record { from = omega arith; upto = omega arith; passed = λ q k. clean q; passes = λ k. lt-ltb (fault f r) 12 l })
 
 module _ (f : List ℕ) (row r : ℕ) (got : Record) (is : row ≡ fault f r) where
   refused-at : (refusal : Refusal) → r < due f → Clean f r → answer row r got ≡ Refused refusal → reading f ≡ refused (refusal .number) (refusal .place)

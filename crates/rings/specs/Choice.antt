@@ -5,7 +5,7 @@ use Prim.Native.Nat.{ℕ, _≤_, _<_}
 use native.Mathlib.Omega.{arith}
 use borrow.Author.Tests.{leb-true, leb-false, le-leb}
 use lib.Dec.{leb}
-use Rattle.sums.specs.Each.{each, each-at, each-of, each-breaks, Sought, sought, first-is, not-above, of-yes, fails}
+use Rattle.sums.specs.Each.{each, each-at, each-of, each-breaks, before-first, first-passes, first-here, not-above, of-yes, fails}
 use Rattle.sums.specs.Greatest.{greatest}
 use Rattle.book.specs.Book.{Book, spans}
 use Rattle.rules.specs.Cuts.{cutBest, cut}
@@ -33,24 +33,22 @@ beaten : (book : Book) (i j : ℕ) → tops book i ≡ false → ((k : ℕ) → 
 beaten book i j e most = let w = each-breaks (spans book) _ e in omega (arith, leb-false (cutBest book (w .0)) (cutBest book i) (w .2), most (w .0) (w .1))
 
 module _ {book : Book} (on : Ring book) where
-  found : Sought (spans book) 0 (tops book) (cut book)
-  unfolding cut
-  found = sought (spans book) 0 (tops book)
-
   pub cut-in : cut book < spans book
+  unfolding cut
   cut-in =
       let w = greatest (spans book) (cutBest book) (omega (arith, ring-spans on, on .sound .nodes-from)) in
-      not-above (λ l. of-yes (sym (found .passed (w .0) (omega arith) (omega (arith, w .1 .below))) ∙ tops-of book (w .0) (w .1 .most)))
+      not-above (λ l. of-yes (sym (before-first (spans book) (tops book) (w .0) (omega (arith, w .1 .below))) ∙ tops-of book (w .0) (w .1 .most)))
 
   pub cut-chosen : LowestBestCut book (cut book)
+  unfolding cut
   cut-chosen =
-      let most = tops-at book (cut book) (found .passes (omega (arith, cut-in))) in
-      record { in-ring = cut-in; greatest-there = most; lowest = λ i l. beaten book i (cut book) (found .passed i (omega arith) l) most }
+      let most = tops-at book (cut book) (first-passes (spans book) (tops book) cut-in) in
+      record { in-ring = cut-in; greatest-there = most; lowest = λ i l. beaten book i (cut book) (before-first (spans book) (tops book) i l) most }
 
   -- the words leave one cut
   pub cut-once : (j : ℕ) → LowestBestCut book j → cut book ≡ j
   unfolding cut
-  cut-once j c = first-is (spans book) (tops book) j (record { from = omega arith; upto = omega (arith, c .in-ring); passed = λ i l h. lower i h; passes = λ h. tops-of book j (c .greatest-there) })
+  cut-once j c = first-here (spans book) (tops book) j (omega (arith, c .in-ring)) lower (λ h. tops-of book j (c .greatest-there))
     where
       lower : (i : ℕ) → i < j → tops book i ≡ false
       lower i h = fails (λ e. omega (arith, tops-at book i e j (c .in-ring), c .lowest i h))

@@ -127,11 +127,11 @@ some-ext (suc n) f g h = ap₂ _||_ (some-ext n f g (λ i l. h i (omega arith)))
 -- ---- the first that passes
 
 -- what `seek n i f` finds: nothing before it passes, and it passes itself unless it is the end
-pub record Sought (n i : ℕ) (f : ℕ → Bool) (p : ℕ) : Type 0 where
-  pub from : i ≤ p
-  pub upto : p ≤ i + n
-  pub passed : (j : ℕ) → i ≤ j → j < p → f j ≡ false
-  pub passes : p < i + n → f p ≡ true
+record Sought (n i : ℕ) (f : ℕ → Bool) (p : ℕ) : Type 0 where
+  from : i ≤ p
+  upto : p ≤ i + n
+  passed : (j : ℕ) → i ≤ j → j < p → f j ≡ false
+  passes : p < i + n → f p ≡ true
 
 seek-here : (n i : ℕ) (f : ℕ → Bool) → f i ≡ true → Sought (suc n) i f i
 seek-here n i f e = record { from = omega arith; upto = omega arith; passed = λ j l h. absurd (omega arith); passes = λ h. e }
@@ -142,7 +142,7 @@ seek-on n i f p e s = record { from = omega arith; upto = omega arith; passed = 
     before : (j : ℕ) → i ≤ j → j < p → f j ≡ false
     before j l h = ⊎-elim (λ (q : i ≡ j). subst (λ (k : ℕ). f k ≡ false) q e) (λ (m : i < j). s .passed j m h) (eq-or-lt-of-le l)
 
-pub sought : (n i : ℕ) (f : ℕ → Bool) → Sought n i f (seek n i f)
+sought : (n i : ℕ) (f : ℕ → Bool) → Sought n i f (seek n i f)
 unfolding seek
 sought zero i f = record { from = omega arith; upto = omega arith; passed = λ j l h. absurd (omega arith); passes = λ h. absurd (omega arith) }
 sought (suc n) i f = go (f i) refl (sought n (suc i) f)
@@ -152,20 +152,32 @@ sought (suc n) i f = go (f i) refl (sought n (suc i) f)
     go false e s = seek-on n i f (seek n (suc i) f) e s
 
 -- there is one such number
-pub sought-once : (n i : ℕ) (f : ℕ → Bool) (p q : ℕ) → Sought n i f p → Sought n i f q → p ≡ q
+sought-once : (n i : ℕ) (f : ℕ → Bool) (p q : ℕ) → Sought n i f p → Sought n i f q → p ≡ q
 sought-once n i f p q s t = ⊎-elim (λ h. absurd (clash p q s t h)) (λ h. ⊎-elim (λ l. absurd (clash q p t s l)) (λ l. omega arith) (less-or-not q p)) (less-or-not p q)
   where
     clash : (a b : ℕ) → Sought n i f a → Sought n i f b → a < b → ⊥
     clash a b u v h = of-yes (sym (v .passed a (u .from) h) ∙ u .passes (omega (arith, v .upto)))
 
-pub first-is : (n : ℕ) (f : ℕ → Bool) (p : ℕ) → Sought n 0 f p → first n f ≡ p
-first-is n f p s = sought-once n 0 f (first n f) p (sought n 0 f) s
+module _ (n : ℕ) (f : ℕ → Bool) where
+  pub first-upto : first n f ≤ n
+  first-upto = omega (arith, sought n 0 f .upto)
+
+  -- nothing before it passes (so nothing at all, where none is found), and it passes itself unless it is the end
+  pub before-first : (i : ℕ) → i < first n f → f i ≡ false
+  before-first i h = sought n 0 f .passed i (omega arith) h
+
+  pub first-passes : first n f < n → f (first n f) ≡ true
+  first-passes h = sought n 0 f .passes (omega arith)
+
+  -- and these words fix it
+  pub first-here : (i : ℕ) → i ≤ n → ((k : ℕ) → k < i → f k ≡ false) → (i < n → f i ≡ true) → first n f ≡ i
+  first-here i upto before here =
+      sought-once n 0 f (first n f) i (sought n 0 f) (record { from = omega arith; upto = omega arith; passed = λ k from l. before k l; passes = λ l. here (omega arith) })
+
+  -- where nothing passes, none is found
+  pub first-none : ((i : ℕ) → i < n → f i ≡ false) → first n f ≡ n
+  first-none none = first-here n (omega arith) none (λ h. absurd (omega arith))
 
 pub first-ext : (n : ℕ) (f g : ℕ → Bool) → ((i : ℕ) → i < n → f i ≡ g i) → first n f ≡ first n g
-first-ext n f g h = first-is n f (first n g) moved
-  where
-    s : Sought n 0 g (first n g)
-    s = sought n 0 g
-
-    moved : Sought n 0 f (first n g)
-    moved = record { from = s .from; upto = s .upto; passed = λ j l k. h j (omega (arith, s .upto)) ∙ s .passed j l k; passes = λ k. h (first n g) (omega arith) ∙ s .passes k }
+first-ext n f g h =
+    first-here n f (first n g) (first-upto n g) (λ i l. h i (omega (arith, first-upto n g)) ∙ before-first n g i l) (λ l. h (first n g) l ∙ first-passes n g l)

@@ -4,7 +4,7 @@ use mathlib.Core.Bool.{Bool, true, false, not}
 use Prim.Native.Nat.{ℕ, zero, suc, _+_, _≤_, _<_}
 use native.Mathlib.Omega.{arith}
 use borrow.Author.Tests.{not-true, not-false}
-use Rattle.sums.specs.Each.{first, sought, first-is, first-ext}
+use Rattle.sums.specs.Each.{first, first-upto, before-first, first-passes, first-here, first-ext}
 
 -- the lowest of the channels 1 to k that is not held, or k + 1 where none is left
 unfoldable pub lowestFree : ℕ → (ℕ → Bool) → ℕ
@@ -18,16 +18,16 @@ lowest-from k held = omega arith
 
 pub lowest-upto : (k : ℕ) (held : ℕ → Bool) → lowestFree k held ≤ k + 1
 unfolding lowestFree
-lowest-upto k held = omega (arith, sought k 0 (λ c. not (held (suc c))) .upto)
+lowest-upto k held = omega (arith, first-upto k (λ c. not (held (suc c))))
 
 pub lowest-free : (k : ℕ) (held : ℕ → Bool) → lowestFree k held ≤ k → held (lowestFree k held) ≡ false
 unfolding lowestFree
-lowest-free k held h = not-true _ (sought k 0 (λ c. not (held (suc c))) .passes (omega arith))
+lowest-free k held h = not-true _ (first-passes k (λ c. not (held (suc c))) (omega arith))
 
 pub lowest-held : (k : ℕ) (held : ℕ → Bool) (c : ℕ) → 1 ≤ c → c < lowestFree k held → held c ≡ true
 unfolding lowestFree
 lowest-held k held zero l h = absurd (omega arith)
-lowest-held k held (suc c) l h = not-false _ (sought k 0 (λ d. not (held (suc d))) .passed c (omega arith) (omega arith))
+lowest-held k held (suc c) l h = not-false _ (before-first k (λ d. not (held (suc d))) c (omega arith))
 
 -- only what is held of 1 to k matters
 pub lowest-ext : (k : ℕ) (g h : ℕ → Bool) → ((c : ℕ) → 1 ≤ c → c ≤ k → g c ≡ h c) → lowestFree k g ≡ lowestFree k h
@@ -41,6 +41,4 @@ pub lowest-is :
 unfolding lowestFree
 lowest-is k held zero l u free below = absurd (omega arith)
 lowest-is k held (suc c) l u free below =
-    ap suc
-    (first-is k _ c
-    (record { from = omega arith; upto = omega arith; passed = λ d from h. ap not (below (suc d) (omega arith) (omega arith)); passes = λ h. ap not (free (omega arith)) }))
+    ap suc (first-here k _ c (omega arith) (λ d h. ap not (below (suc d) (omega arith) (omega arith))) (λ h. ap not (free (omega arith))))

@@ -7,7 +7,7 @@ use Prim.Native.Nat.{ℕ, zero, suc, _+_, _≤_, _<_}
 use native.Mathlib.Omega.{arith}
 use borrow.Author.Tests.{eqb-true, eq-eqb, ne-eqb}
 use lib.Dec.{eqb}
-use Rattle.sums.specs.Each.{first, first-is, both, decided}
+use Rattle.sums.specs.Each.{first, first-here, both, decided}
 use Rattle.sums.specs.Sums.{Σ, bit, when-yes, when-no, Σ-le, Σ-zero, Σ-swap, Σ-part, Σ-most}
 
 -- a sum of at least 1 each
@@ -62,12 +62,7 @@ distinct n m f below once-each = omega (arith, holders m n (λ j. true) place he
     found i l =
         omega (
           arith,
-          first-is n (λ j. eqb (f j) (f i)) i (record {
-            from = omega arith;
-            upto = omega arith;
-            passed = λ j h k. ne-eqb (f j) (f i) (λ q. omega (arith, once-each j i (omega arith) l q));
-            passes = λ k. eq-eqb (f i) (f i) refl;
-          }),
+          first-here n (λ j. eqb (f j) (f i)) i (omega arith) (λ j h. ne-eqb (f j) (f i) (λ q. omega (arith, once-each j i (omega arith) l q))) (λ k. eq-eqb (f i) (f i) refl),
         )
 
     held : (c : ℕ) → 1 ≤ c → c ≤ n → (j : ℕ) × (j < m) × (true ≡ true) × (place j ≡ c)

@@ -1,11 +1,10 @@
 -- What a counting loop knows after one more turn, and when it may stop: the code counts i + 1 where the definitions go by `suc i`, and one number
--- that fails settles a test over all of them, as the first that passes settles a search. Assumes nothing.
+-- that fails settles a test over all of them. Assumes nothing.
 use mathlib.Core.Path.{_≡_, sym, _∙_}
-use mathlib.Core.Bool.{Bool, true, false}
-use Prim.Native.Nat.{ℕ, _+_, _≤_, _<_}
-use native.Mathlib.Omega.{arith}
+use mathlib.Core.Bool.{Bool, false}
+use Prim.Native.Nat.{ℕ, _+_, _<_}
 use native.Mathlib.Numerals.{add-one}
-use Rattle.sums.specs.Each.{each, each-at, first, first-is, fails, of-yes}
+use Rattle.sums.specs.Each.{each, each-at, fails, of-yes}
 use Rattle.sums.specs.Sums.{Σ}
 
 pub Σ-more : (n : ℕ) (f : ℕ → ℕ) → Σ (n + 1) f ≡ Σ n f + f n
@@ -14,7 +13,3 @@ unfolding Σ
 
 pub each-fails : (n : ℕ) (f : ℕ → Bool) (i : ℕ) → i < n → f i ≡ false → each n f ≡ false
 each-fails n f i l e = fails (λ all. of-yes (sym e ∙ each-at n f all i l))
-
--- nothing before i passes, and i passes or is the end
-pub first-here : (n : ℕ) (f : ℕ → Bool) (i : ℕ) → i ≤ n → ((k : ℕ) → k < i → f k ≡ false) → (i < n → f i ≡ true) → first n f ≡ i
-first-here n f i upto before here = first-is n f i (record { from = omega arith; upto = omega arith; passed = λ k from l. before k l; passes = λ l. here (omega arith) })

@@ -5,9 +5,9 @@ use mathlib.Core.Bool.{Bool, true, false, _||_}
 use mathlib.Core.List.{List}
 use Prim.Native.Nat.{ℕ, _≤_, _<_}
 use native.Mathlib.Omega.{arith}
-use borrow.Author.Tests.{ltb-true, ltb-false, lt-ltb, le-ltb, eq-eqb}
+use borrow.Author.Tests.{ltb-false, lt-ltb, le-ltb, eq-eqb}
 use lib.Dec.{ltb}
-use Rattle.sums.specs.Each.{first, sought, not-above}
+use Rattle.sums.specs.Each.{before-first, first-none}
 use Rattle.book.specs.Bytes.{entryPlaces, pricePlaces, entryIn, priceIn}
 use Rattle.book.specs.Book.{Book, spans, count}
 use Rattle.book.specs.Reading.{Outcome, done, refused, andThen, reading}
@@ -57,14 +57,8 @@ module _ {book : Book} (on : Line book) (entries prices : List ℕ) where
 module _ (book : Book) (prices : List ℕ) where
   pub all-low : spans book ≤ tooDear book (priceIn prices) → (s : ℕ) → s < spans book → priceIn prices s ≤ 1000000
   unfolding tooDear
-  all-low none s l = ltb-false 1000000 (priceIn prices s) (sought (spans book) 0 (λ t. ltb 1000000 (priceIn prices t)) .passed s (omega arith) (omega arith))
+  all-low none s l = ltb-false 1000000 (priceIn prices s) (before-first (spans book) (λ t. ltb 1000000 (priceIn prices t)) s (omega arith))
 
   pub none-dear : ((s : ℕ) → s < spans book → priceIn prices s ≤ 1000000) → spans book ≤ tooDear book (priceIn prices)
   unfolding tooDear
-  none-dear low = not-above clash
-    where
-      dear : ℕ → Bool
-      dear s = ltb 1000000 (priceIn prices s)
-
-      clash : first (spans book) dear < spans book → ⊥
-      clash l = omega (arith, ltb-true 1000000 (priceIn prices (first (spans book) dear)) (sought (spans book) 0 dear .passes (omega arith)), low (first (spans book) dear) l)
+  none-dear low = omega (arith, first-none (spans book) (λ s. ltb 1000000 (priceIn prices s)) (λ s l. le-ltb 1000000 (priceIn prices s) (low s l)))

@@ -6,7 +6,7 @@ use native.Mathlib.Omega.{arith}
 use borrow.Author.Count.{below-more}
 use borrow.Author.Tests.{lt-ltb, le-ltb}
 use lib.Dec.{ltb}
-use Rattle.sums.specs.Turns.{first-here}
+use Rattle.sums.specs.Each.{first-here}
 use Rattle.book.specs.Bytes.{priceIn}
 use Rattle.verdict.proofs.places.dear.Statement.{statement}
 use Rattle.verdict.proofs.places.dear.Tie as tie
