@@ -9,7 +9,7 @@ use lib.ListN.{length, set}
 use lib.Seq.{getD-set-same, getD-set-other}
 use Rattle.sums.specs.Each.{same-or-not}
 use Rattle.sums.specs.At.{at}
-use Rattle.sums.specs.Between.{between, between-none, between-join, at-most-one, only-one, no-other}
+use Rattle.sums.specs.Between.{between, between-none, between-join, at-most-one, only-one, no-other-between}
 
 -- every cell from a to i - 1 has room
 pub record RoomTo (a i : ℕ) (room : List ℕ) : Type 0 where
@@ -60,4 +60,4 @@ module _ {a b i : ℕ} {room₀ room : List ℕ} (taken : TakenTo a b i room₀ 
       here j q = rw q (omega (arith, getD-set-same room i (at room i - 1) 0 (inside room i taken-room), taken-room, before i, one-more i, only-one i))
 
       other : (j : ℕ) → (j ≡ i → ⊥) → at (set room i (at room i - 1)) j + between a (i + 1) j ≡ at room₀ j
-      other j n = omega (arith, getD-set-other room i j (at room i - 1) 0 n, before j, one-more j, no-other i j n)
+      other j n = omega (arith, getD-set-other room i j (at room i - 1) 0 n, before j, one-more j, no-other-between i j n)

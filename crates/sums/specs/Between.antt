@@ -1,14 +1,31 @@
--- The numbers from u up to v - 1, as a count of 0 or 1: the cells between two nodes. Assumes nothing.
+-- The numbers from u up to v - 1, as a test and as a count of 0 or 1: the cells between two nodes. Assumes nothing.
 use mathlib.Core.Path.{_≡_, refl}
-use mathlib.Core.Bool.{Bool, true, false, _&&_}
-use Prim.Native.Nat.{ℕ, _+_, _-_, _≤_, min}
+use mathlib.Core.Bool.{Bool, true, false, _&&_, and-false}
+use Prim.Native.Nat.{ℕ, _+_, _-_, _≤_, _<_, min}
 use native.Mathlib.Omega.{arith}
-use borrow.Author.Tests.{le-leb, lt-ltb, leb-true, leb-false, ltb-true, ltb-false}
+use borrow.Author.Tests.{le-leb, lt-ltb, le-ltb, leb-true, leb-false, ltb-true, ltb-false}
 use lib.Dec.{leb, ltb}
+use Rattle.sums.specs.Each.{both, left-of, right-of}
 use Rattle.sums.specs.Sums.{bit, bit-le}
 
+abbrev pub isBetween : ℕ → ℕ → ℕ → Bool
+isBetween u v j = leb u j && ltb j v
+
+module _ (u v j : ℕ) where
+  pub is-between : u ≤ j → j < v → isBetween u v j ≡ true
+  is-between l h = both _ _ (le-leb u j l) (lt-ltb j v h)
+
+  pub between-from : isBetween u v j ≡ true → u ≤ j
+  between-from e = leb-true u j (left-of _ _ e)
+
+  pub between-upto : isBetween u v j ≡ true → j < v
+  between-upto e = ltb-true j v (right-of (leb u j) _ e)
+
+  pub not-between : v ≤ j → isBetween u v j ≡ false
+  not-between h = rw (le-ltb j v h, and-false)
+
 unfoldable pub between : ℕ → ℕ → ℕ → ℕ
-between u v j = bit (leb u j && ltb j v)
+between u v j = bit (isBetween u v j)
 
 -- 1 where j is below v, else 0
 unfoldable pub below : ℕ → ℕ → ℕ
@@ -41,16 +58,16 @@ between-join u v w j h l = omega (arith, between-round u v w j, between-none v u
 
 pub at-most-one : (u v j : ℕ) → between u v j ≤ 1
 unfolding between
-at-most-one u v j = bit-le (leb u j && ltb j v)
+at-most-one u v j = bit-le (isBetween u v j)
 
 -- a number is the only one between itself and the next
 pub only-one : (i : ℕ) → between i (i + 1) i ≡ 1
 unfolding between
-only-one i = rw (le-leb i i (omega arith), lt-ltb i (i + 1) (omega arith))
+only-one i = rw (is-between i (i + 1) i (omega arith) (omega arith))
 
-pub no-other : (i j : ℕ) → (j ≡ i → ⊥) → between i (i + 1) j ≡ 0
+pub no-other-between : (i j : ℕ) → (j ≡ i → ⊥) → between i (i + 1) j ≡ 0
 unfolding between
-no-other i j n = go (leb i j) (ltb j (i + 1)) refl refl
+no-other-between i j n = go (leb i j) (ltb j (i + 1)) refl refl
   where
     go : (p q : Bool) → leb i j ≡ p → ltb j (i + 1) ≡ q → bit (p && q) ≡ 0
     go true true e f = absurd (n (omega (arith, leb-true i j e, ltb-true j (i + 1) f)))

@@ -78,6 +78,16 @@ unfolding Σ
     (λ (l : i < n). omega (arith, Σ-only n i f l (λ j k. none j (omega arith)), none n (omega arith) (λ e. omega arith)))
     (eq-or-lt-of-le (le-of-suc-le-suc h))
 
+-- changing one term of a sum changes the sum by as much
+pub Σ-change : (n e : ℕ) (f g : ℕ → ℕ) → e < n → ((i : ℕ) → i < n → (i ≡ e → ⊥) → f i ≡ g i) → Σ n f + g e ≡ Σ n g + f e
+unfolding Σ
+Σ-change zero e f g h same = absurd (omega arith)
+Σ-change (suc n) e f g h same =
+    ⊎-elim
+    (λ (q : e ≡ n). rw q (omega (arith, Σ-ext n f g (λ i l. same i (omega arith) (λ r. omega arith)))))
+    (λ (l : e < n). omega (arith, Σ-change n e f g l (λ i k. same i (omega arith)), same n (omega arith) (λ r. omega arith)))
+    (eq-or-lt-of-le (le-of-suc-le-suc h))
+
 -- ---- tests in sums
 
 pub when-le : (t : Bool) (x : ℕ) → when t x ≤ x
