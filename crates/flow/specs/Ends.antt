@@ -6,7 +6,7 @@ use Prim.Native.Nat.{ℕ, _≤_, _<_}
 use native.Mathlib.Omega.{arith}
 use Rattle.sums.specs.Each.{same-or-not}
 use Rattle.flow.specs.Balanced.{Proper, Deep}
-use Rattle.flow.specs.Searching.{Ground, Searching}
+use Rattle.flow.specs.Searching.{Ground, DeepAt, Searching}
 use Rattle.flow.specs.Walking.{Open}
 use Rattle.flow.specs.Raise.{raised, raised-deep, raised-open}
 
@@ -28,7 +28,7 @@ pub record Unreached (g : Ground) (a b most : ℕ) (d : ℕ → ℕ) : Type 0 wh
   pub deep : Deep (g .row) (g .t) (g .x) (g .s) (raised most (g .N) d)
 
 module _ {g : Ground} {a b most clock : ℕ} {d rank by from : ℕ → ℕ}
-    (deep : Deep (g .row) (g .t) (g .x) (g .s) (g .N)) (proper : Proper (g .row) (g .t)) (searching : Searching g b most d rank by from clock) (node : a ≤ g .row .cells) (still : rank a ≡ 0)
+    (deep : DeepAt g) (proper : Proper (g .row) (g .t)) (searching : Searching g b most d rank by from clock) (node : a ≤ g .row .cells) (still : rank a ≡ 0)
   where
     pub unreached : ((w : ℕ) → w ≤ g .row .cells → rank w ≡ 0 → most ≤ d w) → Unreached g a b most d
     unreached stop = record { root = searching .labels .root; far = stop a node still; deep = raised-deep deep proper searching stop }

@@ -8,7 +8,7 @@ use native.Mathlib.Nat.{eq-zero-or-pos}
 use native.Mathlib.Omega.{arith}
 use Rattle.row.specs.Meets.{first-in}
 use Rattle.flow.specs.Balanced.{Proper, Deep}
-use Rattle.flow.specs.Searching.{Ground, Came, Spread, Searching}
+use Rattle.flow.specs.Searching.{Ground, DeepAt, Came, Spread, Searching}
 use Rattle.flow.specs.Walking.{Open}
 
 -- node v, deepened by what its label lacks to D
@@ -21,7 +21,7 @@ raised-upto {v} d deepest l h = omega (arith, deepest v h)
 
 -- ---- the depths and the arcs after a search
 
-pub raised-deep : {g : Ground} {b most D clock : ℕ} {d rank by from : ℕ → ℕ} → Deep (g .row) (g .t) (g .x) (g .s) (g .N) → Proper (g .row) (g .t) →
+pub raised-deep : {g : Ground} {b most D clock : ℕ} {d rank by from : ℕ → ℕ} → DeepAt g → Proper (g .row) (g .t) →
     Searching g b most d rank by from clock → ((w : ℕ) → w ≤ g .row .cells → rank w ≡ 0 → D ≤ d w) → Deep (g .row) (g .t) (g .x) (g .s) (raised D (g .N) d)
 unfolding raised
 raised-deep {g} {D} {d} {rank} deep proper searching stop = record {
@@ -36,13 +36,13 @@ raised-deep {g} {D} {d} {rank} deep proper searching stop = record {
     arc u v h long way = ⊎-elim (λ (q : rank u ≡ 0). omega (arith, stop u h q)) (λ q. omega (arith, way (searching .spread u h q))) (eq-zero-or-pos (rank u))
 
 -- the arc's length is not below 0, so that the label at its near end is not past D either
-came-open : {g : Ground} {D e u v : ℕ} {d : ℕ → ℕ} → Deep (g .row) (g .t) (g .x) (g .s) (g .N) → d v ≤ D → Came g d e u v → Open (g .row) (g .t) (g .x) (g .s) (raised D (g .N) d) e u v
+came-open : {g : Ground} {D e u v : ℕ} {d : ℕ → ℕ} → DeepAt g → d v ≤ D → Came g d e u v → Open (g .row) (g .t) (g .x) (g .s) (raised D (g .N) d) e u v
 unfolding raised
 came-open {g} {u} deep h (Came.up i step l same) = Open.up i step l (omega (arith, rw (← step) at (deep .rises u (omega arith))))
 came-open {g} {v} deep h (Came.down i step l spare same) = Open.down i step l spare (omega (arith, rw (← step) at (deep .level v l spare)))
 came-open {g} {e} deep h (Came.along l left first last same) = Open.along l left first last (omega (arith, rw (← first, ← last) at (deep .dropped e l left)))
 came-open {g} {e} deep h (Came.back l kept first last same) = Open.back l kept first last (omega (arith, rw (← first, ← last) at (deep .paid e l kept)))
 
-pub raised-open : {g : Ground} {b most D clock v : ℕ} {d rank by from : ℕ → ℕ} → Deep (g .row) (g .t) (g .x) (g .s) (g .N) → Searching g b most d rank by from clock →
+pub raised-open : {g : Ground} {b most D clock v : ℕ} {d rank by from : ℕ → ℕ} → DeepAt g → Searching g b most d rank by from clock →
     v ≤ g .row .cells → d v < most → (v ≡ b → ⊥) → d v ≤ D → Open (g .row) (g .t) (g .x) (g .s) (raised D (g .N) d) (by v) (from v) v
 raised-open {v} deep searching l shorter apart near = came-open deep near (searching .labels .came v l shorter apart)

@@ -7,11 +7,8 @@ use Prim.Native.Nat.{ℕ, zero, suc, _+_, _≤_, _<_}
 use native.Mathlib.Omega.{arith}
 use Rattle.sums.specs.Each.{less-or-not, same-or-not}
 use Rattle.row.specs.Meets.{first-in}
-use Rattle.flow.specs.Balanced.{Proper, Deep}
-use Rattle.flow.specs.Searching.{Ground, Came, up, down, along, back, Spread, Labels, Searching, Spreading}
-
-abbrev pub DeepAt : Ground → Type 0
-DeepAt g = Deep (g .row) (g .t) (g .x) (g .s) (g .N)
+use Rattle.flow.specs.Balanced.{Proper}
+use Rattle.flow.specs.Searching.{Ground, DeepAt, Came, up, down, along, back, CellHolds, AlongHolds, BackHolds, Spread, Labels, Searching, Spreading}
 
 -- what holds at v and wherever else, holds
 split : {P : ℕ → Type 0} (v : ℕ) → P v → ((w : ℕ) → (w ≡ v → ⊥) → P w) → (w : ℕ) → P w
@@ -185,16 +182,6 @@ pub spread-done : {g : Ground} {b most : ℕ} {d rank by from : ℕ → ℕ} {cl
 spread-done {u = u} s = record { labels = s .labels; spread = split u (λ i p. s .part) (λ w n i p. s .others w i p n) }
 
 -- ---- one arc out of u
-
--- the label at its end is no longer than the way through u: a cell to v, dropped candidate i, kept candidate i
-abbrev pub CellHolds : Ground → (ℕ → ℕ) → ℕ → ℕ → Type 0
-CellHolds g d u v = d v + g .N u ≤ d u + g .N v
-
-abbrev pub AlongHolds : Ground → (ℕ → ℕ) → ℕ → ℕ → Type 0
-AlongHolds g d u i = d (g .row .hi i) + (g .N u + g .row .profit i) ≤ d u + g .N (g .row .hi i)
-
-abbrev pub BackHolds : Ground → (ℕ → ℕ) → ℕ → ℕ → Type 0
-BackHolds g d u i = d (g .row .lo i) + g .N u ≤ d u + (g .N (g .row .lo i) + g .row .profit i)
 
 -- an arc of length len, where the label of u is a: a label of a + len at its end came along it
 module _ {g : Ground} {d : ℕ → ℕ} {u v a : ℕ} (len : ℕ) where

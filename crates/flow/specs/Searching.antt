@@ -5,6 +5,7 @@ use mathlib.Core.Bool.{Bool, true, false}
 use mathlib.Core.Path.{_≡_}
 use Prim.Native.Nat.{ℕ, suc, _+_, _≤_, _<_}
 use Rattle.row.specs.Row.{Row}
+use Rattle.flow.specs.Balanced.{Deep}
 
 -- What a search goes over, fixed while it runs: the row, its first t candidates (t at most 256), and the state that they left.
 pub record Ground : Type 0 where
@@ -14,6 +15,10 @@ pub record Ground : Type 0 where
   pub s : ℕ → ℕ
   pub N : ℕ → ℕ
 
+-- its depths are deep: no arc deepens a node
+abbrev pub DeepAt : Ground → Type 0
+DeepAt g = Deep (g .row) (g .t) (g .x) (g .s) (g .N)
+
 -- label d v came along arc e from u: up a cell (256), back down a cell with room (257), along dropped candidate e, back along kept candidate e.
 -- The equations say that d v is d u and the arc's length.
 pub data Came (g : Ground) (d : ℕ → ℕ) (e u v : ℕ) : Type 0 where
@@ -22,13 +27,23 @@ pub data Came (g : Ground) (d : ℕ → ℕ) (e u v : ℕ) : Type 0 where
   along : e < g .t → g .x e ≡ false → u ≡ g .row .lo e → v ≡ g .row .hi e → d v + (g .N u + g .row .profit e) ≡ d u + g .N v → Came g d e u v
   back : e < g .t → g .x e ≡ true → u ≡ g .row .hi e → v ≡ g .row .lo e → d v + g .N u ≡ d u + (g .N v + g .row .profit e) → Came g d e u v
 
+-- the label at the end of an arc out of u is no longer than the way through u: of a cell to v, dropped candidate i, kept candidate i
+abbrev pub CellHolds : Ground → (ℕ → ℕ) → ℕ → ℕ → Type 0
+CellHolds g d u v = d v + g .N u ≤ d u + g .N v
+
+abbrev pub AlongHolds : Ground → (ℕ → ℕ) → ℕ → ℕ → Type 0
+AlongHolds g d u i = d (g .row .hi i) + (g .N u + g .row .profit i) ≤ d u + g .N (g .row .hi i)
+
+abbrev pub BackHolds : Ground → (ℕ → ℕ) → ℕ → ℕ → Type 0
+BackHolds g d u i = d (g .row .lo i) + g .N u ≤ d u + (g .N (g .row .lo i) + g .row .profit i)
+
 -- every arc out of u has been looked at, of the candidates those from number lit on (dropped ones, by their first node) and from number dim on
--- (kept ones, by their last node): no label is longer than the way through u
+-- (kept ones, by their last node)
 pub record Spread (g : Ground) (d : ℕ → ℕ) (u lit dim : ℕ) : Type 0 where
-  pub up : u < g .row .cells → d (suc u) + g .N u ≤ d u + g .N (suc u)
-  pub down : (v : ℕ) → suc v ≡ u → v < g .row .cells → 0 < g .s v → d v + g .N u ≤ d u + g .N v
-  pub along : (i : ℕ) → lit ≤ i → i < g .t → g .x i ≡ false → g .row .lo i ≡ u → d (g .row .hi i) + (g .N u + g .row .profit i) ≤ d u + g .N (g .row .hi i)
-  pub back : (i : ℕ) → dim ≤ i → i < g .t → g .x i ≡ true → g .row .hi i ≡ u → d (g .row .lo i) + g .N u ≤ d u + (g .N (g .row .lo i) + g .row .profit i)
+  pub up : u < g .row .cells → CellHolds g d u (suc u)
+  pub down : (v : ℕ) → suc v ≡ u → v < g .row .cells → 0 < g .s v → CellHolds g d u v
+  pub along : (i : ℕ) → lit ≤ i → i < g .t → g .x i ≡ false → g .row .lo i ≡ u → AlongHolds g d u i
+  pub back : (i : ℕ) → dim ≤ i → i < g .t → g .x i ≡ true → g .row .hi i ≡ u → BackHolds g d u i
 
 -- the labels as they stand, with `clock` the next rank
 pub record Labels (g : Ground) (b most : ℕ) (d rank by from : ℕ → ℕ) (clock : ℕ) : Type 0 where

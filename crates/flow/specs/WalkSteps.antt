@@ -4,28 +4,17 @@
 use mathlib.Core.Path.{_≡_, refl, sym, ap, _∙_}
 use mathlib.Core.Bool.{Bool, true, false, _&&_}
 use mathlib.Core.Logic.{_⊎_, inl, inr, ⊎-elim}
-use Prim.Native.Nat.{ℕ, zero, suc, _+_, _≤_, _<_}
-use native.Mathlib.Nat.{eq-or-lt-of-le, le-of-suc-le-suc}
+use Prim.Native.Nat.{ℕ, suc, _+_, _≤_, _<_}
 use native.Mathlib.Omega.{arith}
 use Rattle.sums.specs.Between.{between, below, between-below, between-round, between-none}
 use Rattle.sums.specs.Each.{decided, same-or-not, of-yes}
-use Rattle.sums.specs.Sums.{Σ, bit, Σ-ext}
+use Rattle.sums.specs.Sums.{Σ, bit, Σ-ext, Σ-change}
 use Rattle.row.specs.Row.{Row, covers}
 use Rattle.row.specs.Meets.{first-in}
 use Rattle.flow.specs.Balanced.{Proper, loadTo, Deep, Balanced}
 use Rattle.flow.specs.Walking.{Open, up, down, along, back, Walking}
 
 -- ---- loads
-
--- changing one term of a sum changes the sum by as much
-Σ-change : (n e : ℕ) (f g : ℕ → ℕ) → e < n → ((i : ℕ) → i < n → (i ≡ e → ⊥) → f i ≡ g i) → Σ n f + g e ≡ Σ n g + f e
-unfolding Σ
-Σ-change zero e f g h same = absurd (omega arith)
-Σ-change (suc n) e f g h same =
-    ⊎-elim
-    (λ (q : e ≡ n). rw q (omega (arith, Σ-ext n f g (λ i l. same i (omega arith) (λ r. omega arith)))))
-    (λ (l : e < n). omega (arith, Σ-change n e f g l (λ i k. same i (omega arith)), same n (omega arith) (λ r. omega arith)))
-    (eq-or-lt-of-le (le-of-suc-le-suc h))
 
 -- what candidate i counts for on cell j, kept or dropped
 kept-on : (row : Row) (x : ℕ → Bool) (i j : ℕ) → x i ≡ true → bit (x i && covers row i j) ≡ between (row .lo i) (row .hi i) j

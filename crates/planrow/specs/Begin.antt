@@ -1,12 +1,12 @@
 -- The distances before any candidate, as far as node j: the loop that lays them goes cell by cell. Assumes nothing.
 use mathlib.Core.List.{List}
 use mathlib.Core.Logic.{⊎-elim}
-use mathlib.Core.Path.{_≡_, ap, _∙_}
+use mathlib.Core.Path.{_≡_, refl, ap, _∙_}
 use Prim.Native.Nat.{ℕ, suc, _≤_, _<_}
 use native.Mathlib.Omega.{arith}
 use lib.IntN.{ℤ, pos}
 use lib.ListN.{getD, length, set, length-set}
-use lib.Seq.{getD-set-same, getD-set-other}
+use Rattle.sums.specs.At.{Stored, store}
 use Rattle.signed.specs.Parts.{up, dn}
 use Rattle.sums.specs.Each.{same-or-not}
 use Rattle.planrow.specs.State.{at, PastCell, Stepped}
@@ -29,18 +29,21 @@ stepped-none room dist l = record {
 }
   where
     first : (v : ℕ) → v ≤ 0 → getD (set dist 0 (pos 0)) v (pos 0) ≡ pos 0
-    first v h = let q : v ≡ 0 = omega arith in rw q (getD-set-same dist 0 (pos 0) (pos 0) (omega arith))
+    first v h = store (pos 0) dist 0 (pos 0) (omega arith) .here v (omega arith)
 
 -- one cell more
 module _ {j : ℕ} {room : List ℕ} {dist : List ℤ} {far : ℤ} (was : SteppedTo j room dist) (small : j < 127) (cell : PastCell (getD dist j (pos 0)) (at room j) far) where
   abbrev next : List ℤ
   next = set dist (suc j) far
 
+  laid : Stored (pos 0) dist (suc j) far next
+  laid = store (pos 0) dist (suc j) far (omega (arith, was .long))
+
   here : getD next (suc j) (pos 0) ≡ far
-  here = getD-set-same dist (suc j) far (pos 0) (omega (arith, was .long))
+  here = laid .here (suc j) refl
 
   before : (v : ℕ) → v ≤ j → getD next v (pos 0) ≡ getD dist v (pos 0)
-  before v h = getD-set-other dist (suc j) v far (pos 0) (λ q. omega arith)
+  before v h = laid .elsewhere v (λ q. omega arith)
 
   pub stepped-more : SteppedTo (suc j) room next
   stepped-more = record {

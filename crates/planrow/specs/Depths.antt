@@ -9,7 +9,6 @@ use native.Mathlib.Omega.{arith}
 use lib.Dec.{T}
 use lib.IntN.{ℤ, pos, natAbs, _-ℤ_}
 use lib.ListN.{getD, length, set, length-set}
-use lib.Seq.{getD-set-same, getD-set-other}
 use lib.Signed.{nonNeg, leZ}
 use mir.Syntax.{w64}
 use mir.Facts.{toZ-pos}
@@ -17,6 +16,7 @@ use mir.Val.{Fits, toZ}
 use Rattle.signed.specs.Bits.{ReadsAs, Within, rd, taken, minus, within, back}
 use Rattle.signed.specs.Parts.{up, dn, Dif, dif, abs, apart, not-below}
 use Rattle.signed.specs.Tests.{leZ-true, leZ-false}
+use Rattle.sums.specs.At.{Stored, store}
 use Rattle.sums.specs.Each.{same-or-not}
 use Rattle.flow.specs.Raise.{raised}
 use Rattle.planrow.specs.State.{at, depth, lowest, Gains, Deepened, Below}
@@ -109,12 +109,12 @@ module _ {v cells to : ℕ} {label : List ℕ} {dist₀ dist : List ℤ} (small 
   deepened-lowered =
       rw (lowered .again) (next
       (rw length-set (done .long))
-      (ap up stored ∙ omega (arith, low-parts, apart low, done .not-above v l))
-      (ap dn stored ∙ omega (arith, low-parts, apart low, done .not-above v l))
-      (λ w n. getD-set-other dist v w low (pos 0) n))
+      (ap up (stored .here v refl) ∙ omega (arith, low-parts, apart low, done .not-above v l))
+      (ap dn (stored .here v refl) ∙ omega (arith, low-parts, apart low, done .not-above v l))
+      (stored .elsewhere))
     where
-      stored : getD (set dist v low) v (pos 0) ≡ low
-      stored = getD-set-same dist v low (pos 0) (omega (arith, done .long))
+      stored : Stored (pos 0) dist v low (set dist v low)
+      stored = store (pos 0) dist v low (omega (arith, done .long))
 
 -- past the last node
 pub deepened-all : {v cells to : ℕ} {label : List ℕ} {dist₀ dist : List ℤ} → DeepenedTo v cells to label dist₀ dist → cells < v → Deepened cells to label dist₀ dist

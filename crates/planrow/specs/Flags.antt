@@ -7,7 +7,7 @@ use mathlib.Core.Path.{_≡_, refl, sym, ap, _∙_}
 use Prim.Native.Nat.{ℕ, suc, _≤_, _<_}
 use native.Mathlib.Omega.{arith}
 use lib.ListN.{length, set}
-use lib.Seq.{getD-set-same, getD-set-other}
+use Rattle.sums.specs.At.{Stored, store}
 use Rattle.sums.specs.Each.{same-or-not}
 use Rattle.row.specs.Row.{Row}
 use Rattle.planrow.specs.State.{flag, Flagged, Chained, Links, links, Chains, CanTurn, TurnedRound}
@@ -16,48 +16,49 @@ use Rattle.planrow.specs.LatestBelow.{chained-same}
 
 -- ---- flags
 
--- what a flag is set to, at its place and at any other
-flag-here : (kept : List Bool) {e : ℕ} {side : Bool} → e < length kept → flag (set kept e side) e ≡ side
-flag-here kept {e} {side} l = getD-set-same kept e side false l
-
-flag-there : (kept : List Bool) (e i : ℕ) (side : Bool) → (i ≡ e → ⊥) → flag (set kept e side) i ≡ flag kept i
-flag-there kept e i side n = getD-set-other kept e i side false n
-
 -- candidate t is new
-pub new-joins : (kept : List Bool) {t : ℕ} (side : Bool) → t < length kept → Joins (Flagged side t kept) (Flagged side (suc t) (set kept t side)) t
-new-joins kept {t} side long = record {
-  stay = λ i o. (omega (arith, o .0), flag-there kept t i side (λ q. omega (arith, o .0)) ∙ o .1);
-  own = (omega arith, flag-here kept long);
-  rest = λ i o n. (omega (arith, o .0), sym (flag-there kept t i side n) ∙ o .1);
-  outside = λ o. omega (arith, o .0);
-}
+module _ (kept : List Bool) {t : ℕ} (side : Bool) (long : t < length kept) where
+  new : Stored false kept t side (set kept t side)
+  new = store false kept t side long
 
--- and with the other flag are the same as before
-same-new : (kept : List Bool) {t : ℕ} (side : Bool) {other : Bool} (i : ℕ) → Flagged other t kept i → Flagged other (suc t) (set kept t side) i
-same-new kept {t} side i o = (omega (arith, o .0), flag-there kept t i side (λ q. omega (arith, o .0)) ∙ o .1)
+  pub new-joins : Joins (Flagged side t kept) (Flagged side (suc t) (set kept t side)) t
+  new-joins = record {
+    stay = λ i o. (omega (arith, o .0), new .elsewhere i (λ q. omega (arith, o .0)) ∙ o .1);
+    own = (omega arith, new .here t refl);
+    rest = λ i o n. (omega (arith, o .0), sym (new .elsewhere i n) ∙ o .1);
+    outside = λ o. omega (arith, o .0);
+  }
 
-module _ (kept : List Bool) {t : ℕ} {side other : Bool} (apart : side ≡ other → ⊥) where
-  new-same : (i : ℕ) → t < length kept → Flagged other (suc t) (set kept t side) i → Flagged other t kept i
-  new-same i long o =
-      ⊎-elim (λ q. absurd (apart (sym (flag-here kept long) ∙ ap (flag (set kept t side)) (sym q) ∙ o .1))) (λ n. (omega (arith, o .0), sym (flag-there kept t i side n) ∙ o .1)) (same-or-not i t)
+  -- and with the other flag are the same as before
+  same-new : {other : Bool} (i : ℕ) → Flagged other t kept i → Flagged other (suc t) (set kept t side) i
+  same-new i o = (omega (arith, o .0), new .elsewhere i (λ q. omega (arith, o .0)) ∙ o .1)
 
-  -- candidate e gets another flag
-  module _ {e : ℕ} (l : e < t) (long : e < length kept) where
-    pub turned-in : flag kept e ≡ other → Joins (Flagged side t kept) (Flagged side t (set kept e side)) e
-    turned-in was = record {
-      stay = λ i o. (o .0, flag-there kept e i side (λ q. apart (sym (o .1) ∙ ap (flag kept) q ∙ was)) ∙ o .1);
-      own = (l, flag-here kept long);
-      rest = λ i o n. (o .0, sym (flag-there kept e i side n) ∙ o .1);
-      outside = λ o. apart (sym (o .1) ∙ was);
-    }
+  new-same : {other : Bool} → (side ≡ other → ⊥) → (i : ℕ) → Flagged other (suc t) (set kept t side) i → Flagged other t kept i
+  new-same apart i o = ⊎-elim (λ q. absurd (apart (sym (new .here i q) ∙ o .1))) (λ n. (omega (arith, o .0), sym (new .elsewhere i n) ∙ o .1)) (same-or-not i t)
 
-    pub turned-out : flag kept e ≡ side → Joins (Flagged side t (set kept e other)) (Flagged side t kept) e
-    turned-out was = record {
-      stay = λ i o. (o .0, sym (flag-there kept e i other (λ q. apart (sym (o .1) ∙ ap (flag (set kept e other)) q ∙ flag-here kept long))) ∙ o .1);
-      own = (l, was);
-      rest = λ i o n. (o .0, flag-there kept e i other n ∙ o .1);
-      outside = λ o. apart (sym (o .1) ∙ flag-here kept long);
-    }
+-- candidate e gets another flag
+module _ (kept : List Bool) {t : ℕ} {side other : Bool} (apart : side ≡ other → ⊥) {e : ℕ} (l : e < t) (long : e < length kept) where
+  pub turned-in : flag kept e ≡ other → Joins (Flagged side t kept) (Flagged side t (set kept e side)) e
+  turned-in was = record {
+    stay = λ i o. (o .0, now .elsewhere i (λ q. apart (sym (o .1) ∙ ap (flag kept) q ∙ was)) ∙ o .1);
+    own = (l, now .here e refl);
+    rest = λ i o n. (o .0, sym (now .elsewhere i n) ∙ o .1);
+    outside = λ o. apart (sym (o .1) ∙ was);
+  }
+    where
+      now : Stored false kept e side (set kept e side)
+      now = store false kept e side long
+
+  pub turned-out : flag kept e ≡ side → Joins (Flagged side t (set kept e other)) (Flagged side t kept) e
+  turned-out was = record {
+    stay = λ i o. (o .0, sym (now .elsewhere i (λ q. apart (sym (o .1) ∙ now .here i q))) ∙ o .1);
+    own = (l, was);
+    rest = λ i o n. (o .0, now .elsewhere i n ∙ o .1);
+    outside = λ o. apart (sym (o .1) ∙ now .here e refl);
+  }
+    where
+      now : Stored false kept e other (set kept e other)
+      now = store false kept e other long
 
 -- ---- a candidate enters
 
@@ -86,10 +87,10 @@ module _ {cells t : ℕ} {ends : ℕ → ℕ} {head next : List ℕ} (kept : Lis
 -- the other chains are as they were
 module _ {cells t : ℕ} {lo hi : ℕ → ℕ} {kept kept′ : List Bool} {ls : Links} {head next : List ℕ} (long : t < length kept) (c : Chains cells t lo hi kept ls) where
   pub entered-kept : kept′ ≡ set kept t true → Chained cells (Flagged true (suc t) kept′) hi head next → Chains cells (suc t) lo hi kept′ (links (ls .headLo) (ls .nextLo) head next)
-  entered-kept is put = record { dropped = rw is (chained-same (same-new kept true) (λ i. new-same kept true≢false i long) (c .dropped)); held = put }
+  entered-kept is put = record { dropped = rw is (chained-same (same-new kept true long) (new-same kept true long true≢false) (c .dropped)); held = put }
 
   pub entered-dropped : kept′ ≡ set kept t false → Chained cells (Flagged false (suc t) kept′) lo head next → Chains cells (suc t) lo hi kept′ (links head next (ls .headHi) (ls .nextHi))
-  entered-dropped is put = record { dropped = put; held = rw is (chained-same (same-new kept false) (λ i. new-same kept false≢true i long) (c .held)) }
+  entered-dropped is put = record { dropped = put; held = rw is (chained-same (same-new kept false long) (new-same kept false long false≢true) (c .held)) }
 
 -- ---- a candidate is turned round
 

@@ -2,11 +2,10 @@
 -- back, or no way back is short enough. Each ends with the row standing, with one candidate more. Assumes nothing.
 use mathlib.Core.Bool.{Bool, true, false}
 use mathlib.Core.List.{List}
-use mathlib.Core.Path.{_≡_}
+use mathlib.Core.Path.{_≡_, refl}
 use Prim.Native.Nat.{ℕ, suc, _+_, _-_, _≤_, _<_}
 use native.Mathlib.Omega.{arith}
 use lib.ListN.{getD, length, set}
-use lib.Seq.{getD-set-same, getD-set-other}
 use lib.IntN.{ℤ, pos}
 use mir.Syntax.{w64}
 use mir.Val.{SFits}
@@ -16,6 +15,7 @@ use Rattle.flow.specs.Balanced.{Balanced}
 use Rattle.flow.specs.Certificate.{fare-depth, dropped-at-once}
 use Rattle.flow.specs.Insert.{insert-free, insert-dropped, insert-walks}
 use Rattle.flow.specs.Raise.{raised, raised-upto}
+use Rattle.sums.specs.At.{Stored, store}
 use Rattle.sums.specs.Between.{between}
 use Rattle.planrow.specs.Bare.{proper-limited, deep-limited, reached-limited, unreached-limited}
 use Rattle.planrow.specs.Fewer.{proper-fewer, below-fewer}
@@ -80,11 +80,11 @@ module _ {cells t : ℕ} {lo hi : List ℕ} {cost : List ℤ} {kept : List Bool}
 
     -- ---- the new flag
 
-    own : {v : Bool} → length kept ≡ 256 → flag (set kept t v) t ≡ v
-    own long = getD-set-same kept t _ false (omega arith)
+    flagged : (v : Bool) → length kept ≡ 256 → Stored false kept t v (set kept t v)
+    flagged v long = store false kept t v (omega arith)
 
-    others : (v : Bool) (i : ℕ) → i < t → flag (set kept t v) i ≡ flag kept i
-    others v i l = getD-set-other kept t i v false (λ q. omega arith)
+    others : (v : Bool) → length kept ≡ 256 → (i : ℕ) → i < t → flag (set kept t v) i ≡ flag kept i
+    others v long i l = flagged v long .elsewhere i (λ q. omega arith)
 
     -- ---- the four ways
 
@@ -92,14 +92,14 @@ module _ {cells t : ℕ} {lo hi : List ℕ} {cost : List ℤ} {kept : List Bool}
     pub kept-at-once : {room′ : List ℕ} → length kept ≡ 256 → ((j : ℕ) → at lo t ≤ j → j < at hi t → 0 < at room j) → ((j : ℕ) → at room′ j + between (at lo t) (at hi t) j ≡ at room j) →
         Standing (w .limit) (w .count) cells (suc t) lo hi cost (set kept t true) room′ dist
     kept-at-once long free taken = record {
-      balanced = insert-free (proper-limited (w .proper)) (w .standing .balanced) (others true) (own long) free (λ j l. taken j);
+      balanced = insert-free (proper-limited (w .proper)) (w .standing .balanced) (others true long) (flagged true long .here t refl) free (λ j l. taken j);
       dists = below-fewer (omega arith) (omega arith) (w .standing .dists);
     }
 
     -- it gains nothing
     pub dropped-unasked : length kept ≡ 256 → gainIn t lo hi cost dist ≡ 0 → Standing (w .limit) (w .count) cells (suc t) lo hi cost (set kept t false) room dist
     dropped-unasked long worthless = record {
-      balanced = dropped-at-once (w .standing .balanced) (others false) (own long) (omega arith);
+      balanced = dropped-at-once (w .standing .balanced) (others false long) (flagged false long .here t refl) (omega arith);
       dists = below-fewer (omega arith) (omega arith) (w .standing .dists);
     }
 
@@ -118,7 +118,7 @@ module _ {cells t : ℕ} {lo hi : List ℕ} {cost : List ℤ} {kept : List Bool}
       -- no way back is short enough
       pub dropped-after : {label rank by from : List ℕ} {found : Bool} {dist′ : List ℤ} → Searched (groundIn cells t lo hi cost kept room dist) (at lo t) (at hi t) gain label rank by from found → found ≡ false → Deepened cells gain label dist dist′ →
           Standing (w .limit) (w .count) cells (suc t) lo hi cost (set kept t false) room dist′
-      dropped-after s miss deeper = deepened (omega (arith, gain-upto)) deeper (insert-dropped (proper-limited (w .proper)) (w .standing .balanced) (omega arith) (others false) (unreached-limited (s .unreached miss)) (own long))
+      dropped-after s miss deeper = deepened (omega (arith, gain-upto)) deeper (insert-dropped (proper-limited (w .proper)) (w .standing .balanced) (omega arith) (others false long) (unreached-limited (s .unreached miss)) (flagged false long .here t refl))
 
       -- a way back was found: it can be walked
       pub walkable : {label rank by from : List ℕ} {found : Bool} → Searched (groundIn cells t lo hi cost kept room dist) (at lo t) (at hi t) gain label rank by from found → found ≡ true →
@@ -131,7 +131,7 @@ module _ {cells t : ℕ} {lo hi : List ℕ} {cost : List ℤ} {kept : List Bool}
         t-upto = w .t-upto;
         proper = proper-limited (w .proper);
         limits = w .limits;
-        walking = rw on (insert-walks (proper-limited (w .proper)) (w .standing .balanced) (omega arith) (others true) (reached-limited (s .reached hit)) (own long));
+        walking = rw on (insert-walks (proper-limited (w .proper)) (w .standing .balanced) (omega arith) (others true long) (reached-limited (s .reached hit)) (flagged true long .here t refl));
         chains = c;
       }
 

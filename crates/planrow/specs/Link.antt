@@ -6,18 +6,11 @@ use mathlib.Core.Logic.{⊎-elim}
 use Prim.Native.Nat.{ℕ, suc, _+_, _≤_, _<_}
 use native.Mathlib.Omega.{arith}
 use lib.ListN.{length, set, length-set}
-use lib.Seq.{getD-set-same, getD-set-other}
+use Rattle.sums.specs.At.{Stored, store}
 use Rattle.sums.specs.Each.{same-or-not, less-or-not}
 use Rattle.planrow.specs.State.{at, LatestBelow, Chained}
 use Rattle.planrow.specs.Joining.{Joins, Above}
 use Rattle.planrow.specs.LatestBelow.{At, stays, raised, own-next, spared, lowered}
-
--- an array after one store, at the place stored and at any other
-stored : (xs : List ℕ) (i a j : ℕ) → i < length xs → j ≡ i → at (set xs i a) j ≡ a
-stored xs i a j l q = rw q (getD-set-same xs i a 0 l)
-
-others : (xs : List ℕ) (i a j : ℕ) → (j ≡ i → ⊥) → at (set xs i a) j ≡ at xs j
-others xs i a j n = getD-set-other xs i j a 0 n
 
 module _ {In In′ : ℕ → Type 0} {ends : ℕ → ℕ} {e : ℕ} (k : Joins In In′ e) {cells : ℕ} {head next : List ℕ} {v : ℕ} (node : v ≤ cells) (number : e < 256) (here : ends e ≡ v) where
   module _ (c : Chained cells In ends head next) where
@@ -29,13 +22,13 @@ module _ {In In′ : ℕ → Type 0} {ends : ℕ → ℕ} {e : ℕ} (k : Joins I
     put-first in-head in-next first = record {
       few = few-new;
       heads = λ w l. ⊎-elim
-          (λ (q : w ≡ v). rw (stored head v (e + 1) w in-head q) (raised k (here ∙ sym q) number (omega (arith, ap (at head) q)) (c .heads w l)))
-          (λ n. rw (others head v (e + 1) w n) (stays k (λ h q. absurd (n (sym q ∙ here))) (c .heads w l)))
+          (λ (q : w ≡ v). rw (store 0 head v (e + 1) in-head .here w q) (raised k (here ∙ sym q) number (omega (arith, ap (at head) q)) (c .heads w l)))
+          (λ n. rw (store 0 head v (e + 1) in-head .elsewhere w n) (stays k (λ h q. absurd (n (sym q ∙ here))) (c .heads w l)))
           (same-or-not w v);
       nexts = λ j o. ⊎-elim
-          (λ (q : j ≡ e). rw (stored next e (at head v) j in-next q, q, here) (own-next k number first (c .heads v node)))
+          (λ (q : j ≡ e). rw (store 0 next e (at head v) in-next .here j q, q, here) (own-next k number first (c .heads v node)))
           (λ n. let i = k .rest j o n in
-          rw (others next e (at head v) j n)
+          rw (store 0 next e (at head v) in-next .elsewhere j n)
           (stays k (λ h q. absurd (omega (arith, c .heads v node .last j (c .few j i) (i, sym q ∙ here)))) (c .nexts j i)))
           (same-or-not j e);
     }
@@ -46,14 +39,17 @@ module _ {In In′ : ℕ → Type 0} {ends : ℕ → ℕ} {e : ℕ} (k : Joins I
       few = few-new;
       heads = λ w l. stays k (λ h q. omega (arith, c .heads w l .last r (c .few r (b .link)) (b .link, b .end-at ∙ sym here ∙ q), b .above)) (c .heads w l);
       nexts = λ j o. ⊎-elim
-          (λ (q : j ≡ r). rw (stored (set next e (at next r)) r (e + 1) j (rw length-set r-in) q, q) (raised k (here ∙ sym (b .end-at)) (b .above) earlier (c .nexts r (b .link))))
-          (λ n. rw (others (set next e (at next r)) r (e + 1) j n) (⊎-elim
-          (λ (q : j ≡ e). rw (stored next e (at next r) j e-in q, q, here ∙ sym (b .end-at)) (own-next k (b .above) earlier (c .nexts r (b .link))))
-          (λ m. let i = k .rest j o m in rw (others next e (at next r) j m) (stays k (λ h q. later j n i h (sym q ∙ here)) (c .nexts j i)))
+          (λ (q : j ≡ r). rw (after-r .here j q, q) (raised k (here ∙ sym (b .end-at)) (b .above) earlier (c .nexts r (b .link))))
+          (λ n. rw (after-r .elsewhere j n) (⊎-elim
+          (λ (q : j ≡ e). rw (store 0 next e (at next r) e-in .here j q, q, here ∙ sym (b .end-at)) (own-next k (b .above) earlier (c .nexts r (b .link))))
+          (λ m. let i = k .rest j o m in rw (store 0 next e (at next r) e-in .elsewhere j m) (stays k (λ h q. later j n i h (sym q ∙ here)) (c .nexts j i)))
           (same-or-not j e)))
           (same-or-not j r);
     }
       where
+        after-r : Stored 0 (set next e (at next r)) r (e + 1) (set (set next e (at next r)) r (e + 1))
+        after-r = store 0 (set next e (at next r)) r (e + 1) (rw length-set r-in)
+
         earlier : at next r ≤ e
         earlier = ⊎-elim (λ (q : at next r ≡ suc e). absurd (k .outside (c .nexts r (b .link) .one e q .0))) (λ n. omega (arith, b .last)) (same-or-not (at next r) (suc e))
 
@@ -74,8 +70,8 @@ module _ {In In′ : ℕ → Type 0} {ends : ℕ → ℕ} {e : ℕ} (k : Joins I
     take-first in-head first = record {
       few = few-old;
       heads = λ w l. ⊎-elim
-          (λ (q : w ≡ v). rw (stored head v (at next e) w in-head q) (lowered k (omega (arith, ap (at head) q)) (c .heads w l) (c .nexts e (k .own))))
-          (λ n. rw (others head v (at next e) w n) (spared k (λ q. n (sym (c .heads w l .one e q .1) ∙ here)) (c .heads w l)))
+          (λ (q : w ≡ v). rw (store 0 head v (at next e) in-head .here w q) (lowered k (omega (arith, ap (at head) q)) (c .heads w l) (c .nexts e (k .own))))
+          (λ n. rw (store 0 head v (at next e) in-head .elsewhere w n) (spared k (λ q. n (sym (c .heads w l .one e q .1) ∙ here)) (c .heads w l)))
           (same-or-not w v);
       nexts = λ j o. let i = k .stay j o in let l = c .nexts j i in
           spared k (λ q. omega (arith, l .upto, c .heads v node .last j (c .few j i) (i, sym (l .one e q .1) ∙ here))) l;
@@ -87,8 +83,8 @@ module _ {In In′ : ℕ → Type 0} {ends : ℕ → ℕ} {e : ℕ} (k : Joins I
       few = few-old;
       heads = λ w l. spared k (λ q. omega (arith, b .above, c .heads w l .last r (c .few r (b .link)) (b .link, b .end-at ∙ sym here ∙ c .heads w l .one e q .1))) (c .heads w l);
       nexts = λ j o. let i = k .stay j o in ⊎-elim
-          (λ (q : j ≡ r). rw (stored next r (at next e) j r-in q, q) (lowered k to-e (c .nexts r (b .link)) (c .nexts e (k .own))))
-          (λ n. rw (others next r (at next e) j n) (spared k (λ q. other j n i q (c .nexts j i)) (c .nexts j i)))
+          (λ (q : j ≡ r). rw (store 0 next r (at next e) r-in .here j q, q) (lowered k to-e (c .nexts r (b .link)) (c .nexts e (k .own))))
+          (λ n. rw (store 0 next r (at next e) r-in .elsewhere j n) (spared k (λ q. other j n i q (c .nexts j i)) (c .nexts j i)))
           (same-or-not j r);
     }
       where

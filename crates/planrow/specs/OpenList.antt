@@ -6,7 +6,7 @@ use mathlib.Core.Path.{_≡_, refl, sym, ap, _∙_}
 use Prim.Native.Nat.{ℕ, zero, suc, _-_, _≤_, _<_}
 use native.Mathlib.Omega.{arith}
 use lib.ListN.{length, set, length-set}
-use lib.Seq.{getD-set-same, getD-set-other}
+use Rattle.sums.specs.At.{Stored, store}
 use Rattle.sums.specs.Each.{less-or-not, same-or-not}
 use Rattle.sums.specs.Pigeons.{distinct}
 use Rattle.planrow.specs.State.{at, Listed}
@@ -79,17 +79,17 @@ module _ {cells most : ℕ} {d rank : ℕ → ℕ} {list : List ℕ} {size : ℕ
       waits = each (λ w. rank w ≡ 0) fresh (l .waits);
       near = each (λ w. d′ w < most) near still-near;
       once = once-each;
-      all = λ w i z h. ⊎-elim (λ q. (size, omega arith, here ∙ sym q)) (λ n. let k = l .all w i z (omega (arith, same w i n)) in (k .0, omega (arith, k .1), there (k .0) (k .1) ∙ k .2)) (same-or-not w v);
+      all = λ w i z h. ⊎-elim (λ q. (size, omega arith, last .here size refl ∙ sym q)) (λ n. let k = l .all w i z (omega (arith, same w i n)) in (k .0, omega (arith, k .1), there (k .0) (k .1) ∙ k .2)) (same-or-not w v);
     }
       where
-        here : at (set list size v) size ≡ v
-        here = getD-set-same list size v 0 (omega (arith, l .long, listed-room inside far))
+        last : Stored 0 list size v (set list size v)
+        last = store 0 list size v (omega (arith, l .long, listed-room inside far))
 
         there : (i : ℕ) → i < size → at (set list size v) i ≡ at list i
-        there i h = getD-set-other list size i v 0 (λ q. omega arith)
+        there i h = last .elsewhere i (λ q. omega arith)
 
         each : (P : ℕ → Type 0) → P v → ((i : ℕ) → i < size → P (at list i)) → (i : ℕ) → i < suc size → P (at (set list size v) i)
-        each P new old i h = ⊎-elim (λ k. rw (there i k) (old i k)) (λ k. let q : i ≡ size = omega arith in rw (q, here) new) (less-or-not i size)
+        each P new old i h = ⊎-elim (λ k. rw (there i k) (old i k)) (λ k. rw (last .here i (omega arith)) new) (less-or-not i size)
 
         other : (i : ℕ) → i < size → at (set list size v) i ≡ v → ⊥
         other i h q = omega (arith, l .near i h, ap d (sym (there i h) ∙ q))
@@ -97,8 +97,8 @@ module _ {cells most : ℕ} {d rank : ℕ → ℕ} {list : List ℕ} {size : ℕ
         once-each : (i j : ℕ) → i < suc size → j < suc size → at (set list size v) i ≡ at (set list size v) j → i ≡ j
         once-each i j h k q =
             ⊎-elim
-            (λ a. ⊎-elim (λ b. l .once i j a b (sym (there i a) ∙ q ∙ there j b)) (λ b. let e : j ≡ size = omega arith in absurd (other i a (q ∙ ap (at (set list size v)) e ∙ here))) (less-or-not j size))
-            (λ a. ⊎-elim (λ b. let e : i ≡ size = omega arith in absurd (other j b (sym q ∙ ap (at (set list size v)) e ∙ here))) (λ b. omega arith) (less-or-not j size))
+            (λ a. ⊎-elim (λ b. l .once i j a b (sym (there i a) ∙ q ∙ there j b)) (λ b. absurd (other i a (q ∙ last .here j (omega arith)))) (less-or-not j size))
+            (λ a. ⊎-elim (λ b. absurd (other j b (sym q ∙ last .here i (omega arith)))) (λ b. omega arith) (less-or-not j size))
             (less-or-not i size)
 
   -- ---- the node at place i is settled: the last one takes its place
@@ -118,26 +118,23 @@ module _ {cells most : ℕ} {d rank : ℕ → ℕ} {list : List ℕ} {size : ℕ
       list′ : List ℕ
       list′ = set list i (at list (size - 1))
 
-      here : at list′ i ≡ at list (size - 1)
-      here = getD-set-same list i (at list (size - 1)) 0 (omega (arith, l .long, listed-upto))
-
-      there : (j : ℕ) → (j ≡ i → ⊥) → at list′ j ≡ at list j
-      there j n = getD-set-other list i j (at list (size - 1)) 0 n
+      moved : Stored 0 list i (at list (size - 1)) list′
+      moved = store 0 list i (at list (size - 1)) (omega (arith, l .long, listed-upto))
 
       -- whatever is on the list now was at another place than i
       each : (P : ℕ → Type 0) → ((k : ℕ) → k < size → (k ≡ i → ⊥) → P (at list k)) → (j : ℕ) → j < size - 1 → P (at list′ j)
       each P old j h =
-          ⊎-elim (λ (q : j ≡ i). rw (q, here) (old (size - 1) (omega arith) (λ e. omega arith))) (λ n. rw (there j n) (old j (omega arith) n)) (same-or-not j i)
+          ⊎-elim (λ (q : j ≡ i). rw (moved .here j q) (old (size - 1) (omega arith) (λ e. omega arith))) (λ n. rw (moved .elsewhere j n) (old j (omega arith) n)) (same-or-not j i)
 
       once-each : (j k : ℕ) → j < size - 1 → k < size - 1 → at list′ j ≡ at list′ k → j ≡ k
       once-each j k h m q =
           ⊎-elim
-          (λ (a : j ≡ i). ⊎-elim (λ (b : k ≡ i). omega arith) (λ b. absurd (apart k m b (sym here ∙ ap (at list′) (sym a) ∙ q))) (same-or-not k i))
-          (λ a. ⊎-elim (λ (b : k ≡ i). absurd (apart j h a (sym here ∙ ap (at list′) (sym b) ∙ sym q))) (λ b. l .once j k (omega arith) (omega arith) (sym (there j a) ∙ q ∙ there k b)) (same-or-not k i))
+          (λ (a : j ≡ i). ⊎-elim (λ (b : k ≡ i). omega arith) (λ b. absurd (apart k m b (sym (moved .here j a) ∙ q))) (same-or-not k i))
+          (λ a. ⊎-elim (λ (b : k ≡ i). absurd (apart j h a (sym (moved .here k b) ∙ sym q))) (λ b. l .once j k (omega arith) (omega arith) (sym (moved .elsewhere j a) ∙ q ∙ moved .elsewhere k b)) (same-or-not k i))
           (same-or-not j i)
         where
           apart : (k : ℕ) → k < size - 1 → (k ≡ i → ⊥) → at list (size - 1) ≡ at list′ k → ⊥
-          apart k m b q = omega (arith, l .once (size - 1) k (omega arith) (omega arith) (q ∙ there k b))
+          apart k m b q = omega (arith, l .once (size - 1) k (omega arith) (omega arith) (q ∙ moved .elsewhere k b))
 
       settled : (w : ℕ) → rank′ w ≡ 0 → w ≡ at list i → ⊥
       settled w z q = omega (arith, ap rank′ q)
@@ -149,7 +146,7 @@ module _ {cells most : ℕ} {d rank : ℕ → ℕ} {list : List ℕ} {size : ℕ
           elsewhere q = n (sym (k .2) ∙ ap (at list) q)
 
           at-last : k .0 ≡ size - 1 → (j : ℕ) × (j < size - 1) × (at list′ j ≡ w)
-          at-last e = (i, ⊎-elim (λ (h : i < size - 1). h) (λ h. absurd (elsewhere (omega arith))) (less-or-not i (size - 1)), here ∙ ap (at list) (sym e) ∙ k .2)
+          at-last e = (i, ⊎-elim (λ (h : i < size - 1). h) (λ h. absurd (elsewhere (omega arith))) (less-or-not i (size - 1)), moved .here i refl ∙ ap (at list) (sym e) ∙ k .2)
 
           before : (k .0 ≡ size - 1 → ⊥) → (j : ℕ) × (j < size - 1) × (at list′ j ≡ w)
-          before e = (k .0, omega (arith, k .1), there (k .0) elsewhere ∙ k .2)
+          before e = (k .0, omega (arith, k .1), moved .elsewhere (k .0) elsewhere ∙ k .2)

@@ -6,8 +6,8 @@ use Prim.Native.Nat.{ℕ, suc, _+_, _≤_, _<_}
 use native.Mathlib.Omega.{arith}
 use lib.Dec.{eqb}
 use lib.ListN.{length, set}
-use lib.Seq.{getD-set-same, getD-set-other}
 use borrow.Author.Tests.{eq-eqb, ne-eqb}
+use Rattle.sums.specs.At.{Stored, store}
 use Rattle.sums.specs.Each.{same-or-not}
 use Rattle.sums.specs.Sums.{Σ, bit, Σ-ext, Σ-add, Σ-only, Σ-most, bit-le, when-yes, when-no}
 use Rattle.sums.specs.Pigeons.{Σ-least}
@@ -37,13 +37,16 @@ open-all cells rank none =
 
 -- node u is ranked: node by node, what was open is what is open now and u
 module _ (cells : ℕ) (rank : List ℕ) (u clock : ℕ) (inside : u ≤ cells) (long : u < length rank) (fresh : at rank u ≡ 0) (ticks : 1 ≤ clock) where
+  ranked : Stored 0 rank u clock (set rank u clock)
+  ranked = store 0 rank u clock long
+
   here : (v : ℕ) → v ≡ u → same (at rank v) 0 ≡ same (at (set rank u clock) v) 0 + same v u
   here v q =
       rw q
-      (omega (arith, same-one (at rank u) 0 fresh, same-none (at (set rank u clock) u) 0 (λ z. omega (arith, getD-set-same rank u clock 0 long)), same-one u u refl))
+      (omega (arith, same-one (at rank u) 0 fresh, same-none (at (set rank u clock) u) 0 (λ z. omega (arith, ranked .here u refl)), same-one u u refl))
 
   there : (v : ℕ) → (v ≡ u → ⊥) → same (at rank v) 0 ≡ same (at (set rank u clock) v) 0 + same v u
-  there v n = rw (getD-set-other rank u v clock 0 n) (omega (arith, same-none v u n))
+  there v n = rw (ranked .elsewhere v n) (omega (arith, same-none v u n))
 
   pub open-less : openNodes cells (set rank u clock) + 1 ≡ openNodes cells rank
   unfolding openNodes

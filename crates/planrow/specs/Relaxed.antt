@@ -7,13 +7,13 @@ use Prim.Native.Nat.{ℕ, suc, _+_, _≤_, _<_}
 use native.Mathlib.Omega.{arith}
 use lib.IntN.{ℤ}
 use lib.ListN.{length, set}
-use lib.Seq.{getD-set-same, getD-set-other}
+use Rattle.sums.specs.At.{Stored, store}
 use Rattle.signed.specs.Bits.{rd, back, within}
 use Rattle.signed.specs.Parts.{up, dn}
 use Rattle.sums.specs.Each.{less-or-not}
 use Rattle.flow.specs.Balanced.{Proper}
-use Rattle.flow.specs.Searching.{Ground, Came, Labels}
-use Rattle.flow.specs.SearchSteps.{DeepAt, relaxed, passed}
+use Rattle.flow.specs.Searching.{Ground, DeepAt, Came, Labels}
+use Rattle.flow.specs.SearchSteps.{relaxed, passed}
 use Rattle.planrow.specs.State.{at, lowest, Marks, marks, Listed, Relaxation, Lacks, Spreads}
 use Rattle.planrow.specs.OpenList.{listed-room, listed-lower, listed-push}
 
@@ -71,14 +71,6 @@ module _ {cost near far : ℤ} (k : Lacks cost near far) where
 
 -- ---- a step of the search
 
--- an array with entry v set to a
-record Set (xs xs′ : List ℕ) (v a : ℕ) : Type 0 where
-  here : at xs′ v ≡ a
-  elsewhere : (w : ℕ) → (w ≡ v → ⊥) → at xs′ w ≡ at xs w
-
-is-set : (xs : List ℕ) {xs′ : List ℕ} (v a : ℕ) → xs′ ≡ set xs v a → v < length xs → Set xs xs′ v a
-is-set xs v a e l = rw e (record { here = getD-set-same xs v a 0 l; elsewhere = λ w n. getD-set-other xs v w a 0 n })
-
 -- no arc: u gets from one stage to the next with the labels as they are
 pub passing : {g : Ground} {most : ℕ} {Now Then : Ground → ℕ → (ℕ → ℕ) → Type 0} {u : ℕ} {m : Marks} → (Now g u (at (m .label)) → Then g u (at (m .label))) → Spreads g most Now Then u m m
 passing step = record { on = λ b rank clock s. (passed (s .0) (step (s .0 .part)), s .1); no-longer = omega arith }
@@ -101,21 +93,21 @@ relaxing {g} {most} {Now} {Then} {u} {v} {e} {m} {m′} len deep proper inside r
     lower : at (m .label) u + len < at (m .label) v → Spreads g most Now Then u m m′
     lower h = record {
       on = λ b rank clock s. (
-        relaxed deep proper (s .0) arc less same (by-set .here) (from-set .here) (λ w i. by-set .elsewhere w) (λ w i. from-set .elsewhere w)
-            (step (at (m′ .label)) (omega (arith, label-set .here, u-same)) (keeps arc less same (s .0 .part))),
+        relaxed deep proper (s .0) arc less same (by-set .here v refl) (from-set .here v refl) (λ w i. by-set .elsewhere w) (λ w i. from-set .elsewhere w)
+            (step (at (m′ .label)) (omega (arith, label-set .here v refl, u-same)) (keeps arc less same (s .0 .part))),
         ⊎-elim (again (s .1)) (first (s .0 .labels) (s .1)) (less-or-not (at (m .label) v) most),
       );
       no-longer = omega (arith, u-same);
     }
       where
-        label-set : Set (m .label) (m′ .label) v (at (m .label) u + len)
-        label-set = is-set (m .label) v (at (m .label) u + len) (r .label-lower h) (r .label-in)
+        label-set : Stored 0 (m .label) v (at (m .label) u + len) (m′ .label)
+        label-set = rw (r .label-lower h) (store 0 (m .label) v (at (m .label) u + len) (r .label-in))
 
-        by-set : Set (m .by) (m′ .by) v e
-        by-set = is-set (m .by) v e (r .by-lower h) (r .arc-in)
+        by-set : Stored 0 (m .by) v e (m′ .by)
+        by-set = rw (r .by-lower h) (store 0 (m .by) v e (r .arc-in))
 
-        from-set : Set (m .from) (m′ .from) v u
-        from-set = is-set (m .from) v u (r .from-lower h) (r .origin-in)
+        from-set : Stored 0 (m .from) v u (m′ .from)
+        from-set = rw (r .from-lower h) (store 0 (m .from) v u (r .origin-in))
 
         same : (w : ℕ) → w ≤ g .row .cells → (w ≡ v → ⊥) → at (m′ .label) w ≡ at (m .label) w
         same w i = label-set .elsewhere w
@@ -125,10 +117,10 @@ relaxing {g} {most} {Now} {Then} {u} {v} {e} {m} {m′} len deep proper inside r
         u-same = label-set .elsewhere u (λ q. omega (arith, ap (at (m .label)) q))
 
         arc : Came g (at (m′ .label)) e u v
-        arc = came u-same (label-set .here)
+        arc = came u-same (label-set .here v refl)
 
         less : at (m′ .label) v < at (m .label) v
-        less = omega (arith, label-set .here)
+        less = omega (arith, label-set .here v refl)
 
         -- the list: v is on it, or goes on it, being no settled node
         again : {rank : ℕ → ℕ} → Listed (g .row .cells) most (at (m .label)) rank (m .list) (m .size) → at (m .label) v < most →

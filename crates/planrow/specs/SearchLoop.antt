@@ -4,16 +4,16 @@
 use mathlib.Core.Bool.{true, false}
 use mathlib.Core.List.{List}
 use mathlib.Core.Logic.{⊎-elim}
-use mathlib.Core.Path.{_≡_, sym, ap, _∙_}
+use mathlib.Core.Path.{_≡_, refl, sym, ap, _∙_}
 use Prim.Native.Nat.{ℕ, suc, _+_, _-_, _≤_, _<_}
 use native.Mathlib.Numerals.{add-one}
 use native.Mathlib.Omega.{arith}
 use lib.ListN.{length, set, length-set}
-use lib.Seq.{getD-set-same, getD-set-other}
+use Rattle.sums.specs.At.{Stored, store}
 use Rattle.sums.specs.Each.{of-yes, less-or-not}
 use Rattle.flow.specs.Balanced.{Proper}
-use Rattle.flow.specs.Searching.{Ground, Searching}
-use Rattle.flow.specs.SearchSteps.{DeepAt, search-start, settle, spread-done}
+use Rattle.flow.specs.Searching.{Ground, DeepAt, Searching}
+use Rattle.flow.specs.SearchSteps.{search-start, settle, spread-done}
 use Rattle.flow.specs.Ends.{reached, unreached}
 use Rattle.planrow.specs.State.{at, Marks, marks, Listed, CanChoose, Chosen, Underway, Spreads, Nothing, AllDone, Fresh, Searched}
 use Rattle.planrow.specs.OpenList.{listed-start, listed-upto, listed-take}
@@ -34,7 +34,7 @@ pub look : {g : Ground} {a b most : ℕ} {label rank by from : List ℕ} (list :
     Fresh (g .row .cells) b most label rank → Looking g a b most rank (marks label by from (set list 0 b) 1) 0 1
 look {g} {a} {b} {rank = rank} list small a-in b-in some ranks long f = record {
   searching = search-start (f .root) (f .others) (f .still);
-  listed = listed-start small (length-set list 0 b ∙ long) (getD-set-same list 0 b 0 (omega arith)) b-in (f .still b b-in) (omega (arith, f .root)) (f .others);
+  listed = listed-start small (length-set list 0 b ∙ long) (store 0 list 0 b (omega arith) .here 0 refl) b-in (f .still b b-in) (omega (arith, f .root)) (f .others);
   above = λ w i z. omega arith;
   still = f .still a a-in;
   count = omega (arith, open-all (g .row .cells) rank (f .still));
@@ -83,15 +83,12 @@ module _ {g : Ground} {a b most floor clock : ℕ} {rank : List ℕ} {m : Marks}
         (λ h. omega (arith, look-near))
         (less-or-not (at (m .label) w) most)
 
-    here : at (set rank u clock) u ≡ clock
-    here = getD-set-same rank u clock 0 (omega (arith, look-node, l .listed .small, l .ranks))
-
-    there : (w : ℕ) → (w ≡ u → ⊥) → at (set rank u clock) w ≡ at rank w
-    there w n = getD-set-other rank u w clock 0 n
+    ranked : Stored 0 rank u clock (set rank u clock)
+    ranked = store 0 rank u clock (omega (arith, look-node, l .listed .small, l .ranks))
 
     pub look-found : DeepAt g → Proper (g .row) (g .t) → u ≡ a → Searched g a b most (m .label) (set rank u clock) (m .by) (m .from) true
     look-found deep proper q = record {
-      reached = λ e. rw (← q) (reached deep proper (l .searching) look-node fresh look-near least here (λ w i. there w));
+      reached = λ e. rw (← q) (reached deep proper (l .searching) look-node fresh look-near least (ranked .here u refl) (λ w i. ranked .elsewhere w));
       unreached = λ e. absurd (of-yes (sym e));
     }
 
@@ -102,18 +99,18 @@ module _ {g : Ground} {a b most floor clock : ℕ} {rank : List ℕ} {m : Marks}
       searching = rw add-one done;
       listed = spread .1;
       above = λ w j z. done .labels .near u w look-node j ticked z;
-      still = there a (λ q. n (sym q)) ∙ l .still;
+      still = ranked .elsewhere a (λ q. n (sym q)) ∙ l .still;
       count = omega (arith, l .count, open-less (g .row .cells) rank u clock look-node (omega (arith, look-node, l .listed .small, l .ranks)) fresh (l .searching .labels .ticks));
       ranks = length-set rank u clock ∙ l .ranks;
     }
       where
         ticked : 0 < at (set rank u clock) u
-        ticked = omega (arith, here, l .searching .labels .ticks)
+        ticked = omega (arith, ranked .here u refl, l .searching .labels .ticks)
 
         spread : Underway g b most (at (set rank u clock)) (suc clock) u (AllDone g u) m′
         spread =
             s .on b (at (set rank u clock)) (suc clock)
-            (settle (l .searching) look-node fresh look-near least here (λ w i. there w), listed-take (l .listed) (c .inside) ticked (λ w j. there w))
+            (settle (l .searching) look-node fresh look-near least (ranked .here u refl) (λ w i. ranked .elsewhere w), listed-take (l .listed) (c .inside) ticked (λ w j. ranked .elsewhere w))
 
         done : Searching g b most (at (m′ .label)) (at (set rank u clock)) (at (m′ .by)) (at (m′ .from)) (suc clock)
         done = spread-done (spread .0)

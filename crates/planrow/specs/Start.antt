@@ -4,7 +4,7 @@ use mathlib.Core.Path.{_≡_, refl, _∙_}
 use Prim.Native.Nat.{ℕ, suc, _+_, _≤_, _<_}
 use native.Mathlib.Omega.{arith}
 use lib.ListN.{length, set, length-set}
-use lib.Seq.{getD-set-same, getD-set-other}
+use Rattle.sums.specs.At.{Stored, store}
 use Rattle.sums.specs.Filled.{stored}
 use Rattle.planrow.specs.State.{at, Fresh}
 
@@ -30,7 +30,10 @@ module _ {cells most v : ℕ} {label rank : List ℕ} (small : cells ≤ 127) (l
 
   pub laid-out : {b : ℕ} → cells < v → b ≤ cells → Fresh cells b most (set label b 0) rank
   laid-out {b} past inside = record {
-    root = getD-set-same label b 0 0 (omega (arith, l .labels));
-    others = λ w i n. getD-set-other label b w 0 0 n ∙ l .far w (omega arith);
+    root = rooted .here b refl;
+    others = λ w i n. rooted .elsewhere w n ∙ l .far w (omega arith);
     still = λ w i. l .still w (omega arith);
   }
+    where
+      rooted : Stored 0 label b 0 (set label b 0)
+      rooted = store 0 label b 0 (omega (arith, l .labels))

@@ -7,7 +7,7 @@ use mathlib.Core.Logic.{⊎-elim}
 use Prim.Native.Nat.{ℕ, _+_, _-_, _≤_, _<_}
 use native.Mathlib.Omega.{arith}
 use lib.ListN.{length, set, length-set}
-use lib.Seq.{getD-set-same, getD-set-other}
+use Rattle.sums.specs.At.{Stored, store}
 use Rattle.sums.specs.Each.{decided}
 use Rattle.flow.specs.Balanced.{Balanced}
 use Rattle.flow.specs.Walking.{Walking}
@@ -121,23 +121,23 @@ module _ {kept₀ : List Bool} {room₀ : List ℕ} {ls₀ : Links} {rank by fro
       come-up q = record {
         flags = here .flags;
         rooms = rw length-set (here .rooms);
-        walking = step-up (here .walking) going (w .t-upto) q (omega (arith, getD-set-same room (at from v) (at room (at from v) + 1) 0 inside)) (λ j l n. getD-set-other room (at from v) j _ 0 n);
+        walking = step-up (here .walking) going (w .t-upto) q (omega (arith, gains .here (at from v) refl)) (λ j l. gains .elsewhere j);
         chains = here .chains;
       }
         where
-          inside : at from v < length room
-          inside = omega (arith, here .rooms, below-cell q, w .cells-upto)
+          gains : Stored 0 room (at from v) (at room (at from v) + 1) (set room (at from v) (at room (at from v) + 1))
+          gains = store 0 room (at from v) (at room (at from v) + 1) (omega (arith, here .rooms, below-cell q, w .cells-upto))
 
       come-down : at by v ≡ 257 → Come w kept (set room v (at room v - 1)) ls (at from v)
       come-down q = record {
         flags = here .flags;
         rooms = rw length-set (here .rooms);
-        walking = step-down (here .walking) going (w .t-upto) q (omega (arith, getD-set-same room v (at room v - 1) 0 inside, above-room q)) (λ j l n. getD-set-other room v j _ 0 n);
+        walking = step-down (here .walking) going (w .t-upto) q (omega (arith, loses .here v refl, above-room q)) (λ j l. loses .elsewhere j);
         chains = here .chains;
       }
         where
-          inside : v < length room
-          inside = omega (arith, here .rooms, come-in)
+          loses : Stored 0 room v (at room v - 1) (set room v (at room v - 1))
+          loses = store 0 room v (at room v - 1) (omega (arith, here .rooms, come-in))
 
       come-turned : {ls′ : Links} → at by v < w .t → Chains (w .row .cells) (w .t) (w .row .lo) (w .row .hi) (set kept (at by v) (not (flag kept (at by v)))) ls′ →
           Come w (set kept (at by v) (not (flag kept (at by v)))) room ls′ (at from v)
@@ -146,17 +146,14 @@ module _ {kept₀ : List Bool} {room₀ : List ℕ} {ls₀ : Links} {rank by fro
           kept′ : List Bool
           kept′ = set kept (at by v) (not (flag kept (at by v)))
 
-          turned : flag kept′ (at by v) ≡ not (flag kept (at by v))
-          turned = getD-set-same kept (at by v) _ false (omega (arith, here .flags, w .t-upto))
-
-          others : (i : ℕ) → i < w .t → (i ≡ at by v → ⊥) → flag kept′ i ≡ flag kept i
-          others i h n = getD-set-other kept (at by v) i _ false n
+          turned : Stored false kept (at by v) (not (flag kept (at by v))) kept′
+          turned = store false kept (at by v) (not (flag kept (at by v))) (omega (arith, here .flags, w .t-upto))
 
           dropped : flag kept (at by v) ≡ true → Walking (w .row) (w .t) (flag kept′) (at room) (w .N) b (at rank) (at by) (at from) (at from v)
-          dropped on = step-drop (here .walking) going (w .t-upto) (w .proper) refl l on (turned ∙ ap not on) others
+          dropped on = step-drop (here .walking) going (w .t-upto) (w .proper) refl l on (turned .here (at by v) refl ∙ ap not on) (λ i h. turned .elsewhere i)
 
           held : flag kept (at by v) ≡ false → Walking (w .row) (w .t) (flag kept′) (at room) (w .N) b (at rank) (at by) (at from) (at from v)
-          held off = step-keep (here .walking) going (w .t-upto) (w .proper) refl l off (turned ∙ ap not off) others
+          held off = step-keep (here .walking) going (w .t-upto) (w .proper) refl l off (turned .here (at by v) refl ∙ ap not off) (λ i h. turned .elsewhere i)
 
       pub come-next : {kept′ : List Bool} {room′ : List ℕ} {ls′ : Links} → Flipped kept room ls kept′ room′ ls′ (at by v) (at from v) v → Come w kept′ room′ ls′ (at from v)
       come-next f =
