@@ -7,9 +7,8 @@ use mathlib.Core.Path.{_≡_, refl, sym, _∙_}
 use Prim.Native.Nat.{ℕ, _≤_, _<_}
 use native.Mathlib.Omega.{arith}
 use lib.ListN.{set, replicate, length, length-set}
-use lib.Seq.{getD-set-same, getD-set-other}
 use lib.Dec.{ltb}
-use Rattle.sums.specs.At.{zeros}
+use Rattle.sums.specs.At.{zeros, Stored, store}
 use Rattle.sums.specs.Each.{same-or-not}
 use Rattle.channels.specs.HandOut.{at}
 
@@ -33,44 +32,36 @@ module _
     (m : Latest count hi channel ends) (l : i < count) (long : length channel ≡ 256) (few : count ≤ 256)
     (from : 1 ≤ c) (small : c < 128) (none : at channel i ≡ 0) (earlier : at ends c ≤ at hi i)
   where
-    own : at (set channel i c) i ≡ c
-    own = getD-set-same channel i c 0 (omega arith)
+    given : Stored 0 channel i c (set channel i c)
+    given = store 0 channel i c (omega arith)
 
-    others : (j : ℕ) → (j ≡ i → ⊥) → at (set channel i c) j ≡ at channel j
-    others j ne = getD-set-other channel i j c 0 ne
-
-    end : at (set ends c (at hi i)) c ≡ at hi i
-    end = getD-set-same ends c (at hi i) 0 (omega (arith, m .long))
-
-    ends-other : (d : ℕ) → (d ≡ c → ⊥) → at (set ends c (at hi i)) d ≡ at ends d
-    ends-other d ne = getD-set-other ends c d (at hi i) 0 ne
+    latest : Stored 0 ends c (at hi i) (set ends c (at hi i))
+    latest = store 0 ends c (at hi i) (omega (arith, m .long))
 
     pub latest-given : Latest count hi (set channel i c) (set ends c (at hi i))
     latest-given = record { long = length-set ends c (at hi i) ∙ m .long; upto = upto; by = by }
       where
         -- an earlier one on c ended by then
         before : (j : ℕ) → j < count → 0 < at channel j → at hi j ≤ at (set ends c (at hi i)) (at channel j)
-        before j lj h = ⊎-elim (λ q. same q) (λ ne. rw (ends-other (at channel j) ne) (m .upto j lj h)) (same-or-not (at channel j) c)
+        before j lj h = ⊎-elim (λ q. same q) (λ ne. rw (latest .elsewhere (at channel j) ne) (m .upto j lj h)) (same-or-not (at channel j) c)
           where
             same : at channel j ≡ c → at hi j ≤ at (set ends c (at hi i)) (at channel j)
             same q =
                 let old : at hi j ≤ at ends c = rw q at (m .upto j lj h) in
-                rw (q, end) (omega arith)
+                rw (latest .here (at channel j) q) (omega arith)
 
         upto : (j : ℕ) → j < count → 0 < at (set channel i c) j → at hi j ≤ at (set ends c (at hi i)) (at (set channel i c) j)
-        upto j lj h = ⊎-elim (λ q. mine q) (λ ne. rw (others j ne) (before j lj (rw (others j ne) at h))) (same-or-not j i)
+        upto j lj h = ⊎-elim (λ q. mine q) (λ ne. rw (given .elsewhere j ne) (before j lj (rw (given .elsewhere j ne) at h))) (same-or-not j i)
           where
             mine : j ≡ i → at hi j ≤ at (set ends c (at hi i)) (at (set channel i c) j)
-            mine q =
-                let has : at (set channel i c) j ≡ c = rw q own in
-                rw (has, end, q) (omega arith)
+            mine q = rw (given .here j q, latest .here c refl, q) (omega arith)
 
         by : (d : ℕ) → 1 ≤ d → 0 < at (set ends c (at hi i)) d →
             (j : ℕ) × (j < count) × (at (set channel i c) j ≡ d) × (at hi j ≡ at (set ends c (at hi i)) d)
-        by d one h = ⊎-elim (λ q. (i, l, own ∙ sym q, rw q (sym end))) (λ ne. old ne) (same-or-not d c)
+        by d one h = ⊎-elim (λ q. (i, l, given .here i refl ∙ sym q, sym (latest .here d q))) (λ ne. old ne) (same-or-not d c)
           where
             old : (d ≡ c → ⊥) → (j : ℕ) × (j < count) × (at (set channel i c) j ≡ d) × (at hi j ≡ at (set ends c (at hi i)) d)
             old ne =
-                let w = m .by d one (rw (ends-other d ne) at h) in
+                let w = m .by d one (rw (latest .elsewhere d ne) at h) in
                 let apart : w .0 ≡ i → ⊥ = λ q. let mine : at channel i ≡ d = rw q at (w .2) in omega arith in
-                (w .0, w .1, others (w .0) apart ∙ w .2, w .3 ∙ sym (ends-other d ne))
+                (w .0, w .1, given .elsewhere (w .0) apart ∙ w .2, w .3 ∙ sym (latest .elsewhere d ne))

@@ -7,7 +7,7 @@ use mathlib.Core.Path.{_≡_, refl, sym, _∙_}
 use Prim.Native.Nat.{ℕ, _+_, _≤_, _<_}
 use native.Mathlib.Omega.{arith}
 use lib.ListN.{set, replicate, length, length-set, getD-replicate}
-use lib.Seq.{getD-set-same, getD-set-other}
+use Rattle.sums.specs.At.{Stored, store, NumbersBelow}
 use Rattle.sums.specs.Each.{of-yes, same-or-not}
 use Rattle.channels.specs.HandOut.{at, flag, CanHandOut}
 
@@ -26,12 +26,8 @@ pub record ListedByNode (count i : ℕ) (lo : List ℕ) (kept : List Bool) (firs
   pub next : (j : ℕ) → i ≤ j → j < count → flag kept j ≡ true → Leads count (j + 1) (at lo j) lo kept (at after j)
 
 -- the nodes where the first `count` begin are places of the lists
-pub record CanList (count : ℕ) (lo : List ℕ) : Type 0 where
-  pub count-upto : count ≤ 256
-  pub below : (j : ℕ) → j < count → at lo j < 128
-
-pub can-list : {cells count k : ℕ} {lo hi : List ℕ} {kept : List Bool} → CanHandOut cells count k lo hi kept → CanList count lo
-can-list can = record { count-upto = can .count-upto; below = λ j l. omega (arith, can .proper .some-cell j l, can .proper .in-row j l, can .cells-upto) }
+pub can-list : {cells count k : ℕ} {lo hi : List ℕ} {kept : List Bool} → CanHandOut cells count k lo hi kept → NumbersBelow 128 count lo
+can-list can = record { few = can .count-upto; below = λ j l. omega (arith, can .proper .some-cell j l, can .proper .in-row j l, can .cells-upto) }
 
 module _ {count : ℕ} {lo : List ℕ} {kept : List Bool} where
   -- no number is in the lists
@@ -52,7 +48,7 @@ module _ {count : ℕ} {lo : List ℕ} {kept : List Bool} where
 
   -- the turn of e, when those from i = e + 1 on are in the lists; then those from n = e on are
   module _
-      {i n : ℕ} (e : ℕ) {first after : List ℕ} (can : CanList count lo) (l : e < count) (listed : ListedByNode count i lo kept first after)
+      {i n : ℕ} (e : ℕ) {first after : List ℕ} (can : NumbersBelow 128 count lo) (l : e < count) (listed : ListedByNode count i lo kept first after)
       (above : i ≡ e + 1) (left : n ≡ e)
     where
       s : ListedByNode count (e + 1) lo kept first after
@@ -77,15 +73,21 @@ module _ {count : ℕ} {lo : List ℕ} {kept : List Bool} where
       })
         where
           front : Leads count e (at lo e) lo kept e
-          front = record { on = omega arith; upto = omega (arith, can .count-upto); passed = λ j from h. absurd (omega arith); here = λ h. (is, refl) }
+          front = record { on = omega arith; upto = omega (arith, can .few); passed = λ j from h. absurd (omega arith); here = λ h. (is, refl) }
+
+          leads : Stored 0 first (at lo e) e (set first (at lo e) e)
+          leads = store 0 first (at lo e) e (omega (arith, can .below e l, s .first-long))
 
           begins : (v : ℕ) → v < 128 → Leads count e v lo kept (at (set first (at lo e) e) v)
           begins v lv =
-              ⊎-elim (λ (q : v ≡ at lo e). rw (q, getD-set-same first (at lo e) e 0 (omega (arith, can .below e l, s .first-long))) front)
-              (λ ne. rw (getD-set-other first (at lo e) v e 0 ne) (leads-down (s .begins v lv) (λ is b. ne (sym b)))) (same-or-not v (at lo e))
+              ⊎-elim (λ (q : v ≡ at lo e). rw (leads .here v q, q) front) (λ ne. rw (leads .elsewhere v ne) (leads-down (s .begins v lv) (λ is b. ne (sym b))))
+              (same-or-not v (at lo e))
+
+          follows : Stored 0 after e (at first (at lo e)) (set after e (at first (at lo e)))
+          follows = store 0 after e (at first (at lo e)) (omega (arith, can .few, s .after-long))
 
           next : (j : ℕ) → e ≤ j → j < count → flag kept j ≡ true → Leads count (j + 1) (at lo j) lo kept (at (set after e (at first (at lo e))) j)
           next j from lj ej =
               ⊎-elim
-              (λ (q : j ≡ e). rw (q, getD-set-same after e (at first (at lo e)) 0 (omega (arith, can .count-upto, s .after-long))) (s .begins (at lo e) (can .below e l)))
-              (λ ne. rw (getD-set-other after e j (at first (at lo e)) 0 ne) (s .next j (omega arith) lj ej)) (same-or-not j e)
+              (λ (q : j ≡ e). rw (follows .here j q, q) (s .begins (at lo e) (can .below e l)))
+              (λ ne. rw (follows .elsewhere j ne) (s .next j (omega arith) lj ej)) (same-or-not j e)

@@ -10,7 +10,7 @@ use lib.ListN.{replicate, length}
 use Rattle.sums.specs.Each.{of-yes, less-or-not}
 use Rattle.sums.specs.Lowest.{lowestFree}
 use Rattle.row.specs.Row.{heldBefore}
-use Rattle.row.specs.Channels.{Ruled, rule-ext, at-most-load, ruled-exists}
+use Rattle.row.specs.Channels.{Ruled, rule-ext, found, ruled-exists}
 use Rattle.channels.specs.HandOut.{at, flag, rowOn, CanHandOut, HandedOut}
 use Rattle.channels.specs.Latest.{Latest, latest-start}
 use Rattle.channels.specs.Lists.{Leads}
@@ -55,11 +55,8 @@ module _ {cells count k : ℕ} {lo hi : List ℕ} {kept : List Bool} (can : CanH
   pub rule-is : Ruled (rowOn cells count lo hi) k (flag kept) (rule cells count k lo hi kept)
   rule-is = ruled-exists (rowOn cells count lo hi) k (flag kept) .1
 
-  -- at most the load at the first cell, which is at most k
   pub rule-upto : (i : ℕ) → i < count → flag kept i ≡ true → rule cells count k lo hi kept i ≤ k
-  rule-upto i l e =
-      let some = can .proper .some-cell i l in
-      omega (arith, at-most-load (rowOn cells count lo hi) k (flag kept) _ rule-is i l e some, can .fits (at lo i) (omega (arith, can .proper .in-row i l)))
+  rule-upto = found (rowOn cells count lo hi) k (flag kept) (rule cells count k lo hi kept) (can .fits) (can .proper) rule-is
 
 -- ---- from one stage to the next
 

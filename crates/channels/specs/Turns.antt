@@ -8,7 +8,7 @@ use Prim.Native.Nat.{ℕ, _+_, _≤_, _<_}
 use native.Mathlib.Omega.{arith}
 use borrow.Author.Tests.{ltb-true, ltb-false, lt-ltb}
 use lib.ListN.{set, length-set}
-use lib.Seq.{getD-set-same, getD-set-other}
+use Rattle.sums.specs.At.{Stored, store}
 use Rattle.sums.specs.Each.{some-of, both, same-test, less-or-not, same-or-not}
 use Rattle.sums.specs.Lowest.{lowestFree, lowest-from, lowest-free, lowest-ext}
 use Rattle.row.specs.Row.{Row, before, meet, heldBefore}
@@ -87,18 +87,15 @@ module _
         taken : ℕ
         taken = lowestFree k (heldPast ends v)
 
-        own : at (set channel i taken) i ≡ taken
-        own = getD-set-same channel i taken 0 (omega (arith, s .long, s .can .count-upto))
-
-        others : (j : ℕ) → (j ≡ i → ⊥) → at (set channel i taken) j ≡ at channel j
-        others j ne = getD-set-other channel i j taken 0 ne
+        now : Stored 0 channel i taken (set channel i taken)
+        now = store 0 channel i taken (omega (arith, s .long, s .can .count-upto))
 
         given : (j : ℕ) → j < count → flag kept j ≡ true → place (at lo j) j < place v (i + 1) → at (set channel i taken) j ≡ rule cells count k lo hi kept j
-        given j lj ej p = ⊎-elim (λ q. rw q (own ∙ takes)) (λ ne. others j ne ∙ s .given j lj ej (omega (arith, s .can .count-upto))) (same-or-not j i)
+        given j lj ej p = ⊎-elim (λ q. now .here j q ∙ rw q takes) (λ ne. now .elsewhere j ne ∙ s .given j lj ej (omega (arith, s .can .count-upto))) (same-or-not j i)
 
         only : (j : ℕ) → j < count → 0 < at (set channel i taken) j → (flag kept j ≡ true) × (place (at lo j) j < place v (i + 1))
         only j lj h =
-            ⊎-elim (λ q. rw q (e, omega arith)) (λ ne. let first = s .only j lj (rw (others j ne) at h) in (first .0, omega (arith, first .1))) (same-or-not j i)
+            ⊎-elim (λ q. rw q (e, omega arith)) (λ ne. let first = s .only j lj (rw (now .elsewhere j ne) at h) in (first .0, omega (arith, first .1))) (same-or-not j i)
 
         -- i had none, since it does not come before itself; what ends by v ends before i does
         latest : Latest count hi (set channel i taken) (set ends taken (at hi i))

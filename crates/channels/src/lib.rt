@@ -3,10 +3,11 @@
 ghost use mathlib.Core.Path.{_≡_};
 ghost use Prim.Native.Nat.{ℕ, _≤_, _<_};
 ghost use lib.ListN.{getD, length};
+ghost use Rattle.sums.specs.At.{NumbersBelow};
 ghost use Rattle.sums.specs.Lowest.{lowestFree};
 ghost use Rattle.channels.specs.HandOut.{CanHandOut, HandedOut};
 ghost use Rattle.channels.specs.Latest.{heldPast};
-ghost use Rattle.channels.specs.Lists.{CanList, ListedByNode};
+ghost use Rattle.channels.specs.Lists.{ListedByNode};
 ghost use Rattle.channels.specs.Stages.{Stage, Turned};
 
 // Whether every kept one has a channel, or the one that finds none of 1 to k left (refusal 15).
@@ -38,7 +39,7 @@ pub fn begin_lists(
     first: &mut [usize; 128],
     after: &mut [usize; 256],
 )
-    requires { ⌜ CanList count (now lo) ⌝ }
+    requires { ⌜ NumbersBelow 128 count (now lo) ⌝ }
     requires { ⌜ ListedByNode count count (now lo) (now kept) (now first) (now after) ⌝ }
     ensures { λ r. ⌜ ListedByNode count 0 (now (lo .entry)) (now (kept .entry)) (now (first .exit)) (now (after .exit)) ⌝ }
 {

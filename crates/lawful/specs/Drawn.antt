@@ -1,14 +1,14 @@
 -- What the rules are decided on: an accepted line as columns of numbers, without its profits. Assumes nothing.
 use mathlib.Core.Path.{_≡_}
 use mathlib.Core.List.{List}
-use Prim.Native.Nat.{ℕ, _<_}
+use Prim.Native.Nat.{ℕ}
 use native.Mathlib.Omega.{arith}
+use Rattle.sums.specs.At.{NumbersBelow}
 use Rattle.sums.specs.Filled.{Filled}
 use Rattle.book.specs.Book as Books
 use Rattle.book.specs.Book.{Book, limit, endA, endB}
-use Rattle.book.specs.Columns.{at}
 use Rattle.lines.specs.Line.{Line}
-use Rattle.lines.specs.HeldLine.{HeldLine, few-spans, a-in, b-in}
+use Rattle.lines.specs.HeldLine.{HeldLine, few-spans, few, a-in, b-in}
 
 -- an accepted line, its spans and requests counted, its limits and ends in columns
 pub record Drawn (book : Book) (spans : ℕ) (limits : List ℕ) (count : ℕ) (a b : List ℕ) : Type 0 where
@@ -18,11 +18,6 @@ pub record Drawn (book : Book) (spans : ℕ) (limits : List ℕ) (count : ℕ) (
   pub limit-is : Filled (limit book) spans limits
   pub a-is : Filled (endA book) count a
   pub b-is : Filled (endB book) count b
-
--- the ends of the first `count` requests are below a bound
-pub record EndsBelow (bound count : ℕ) (a b : List ℕ) : Type 0 where
-  pub a-below : (i : ℕ) → i < count → at a i < bound
-  pub b-below : (i : ℕ) → i < count → at b i < bound
 
 -- the rules do not look at the profits
 pub drawn :
@@ -40,5 +35,8 @@ drawn h = record {
 -- the nodes of a line are below 64
 pub ends-below :
     {book : Book} {spans count : ℕ} {limits a b profits : List ℕ} → HeldLine book spans count limits a b profits
-    → EndsBelow 64 count a b
-ends-below h = record { a-below = λ i l. omega (arith, a-in h i l, few-spans h); b-below = λ i l. omega (arith, b-in h i l, few-spans h) }
+    → NumbersBelow 64 count a × NumbersBelow 64 count b
+ends-below h = (
+  record { few = few h; below = λ i l. omega (arith, a-in h i l, few-spans h) },
+  record { few = few h; below = λ i l. omega (arith, b-in h i l, few-spans h) },
+)

@@ -2,14 +2,13 @@
 -- a place a request and a turn of the loop a place. Assumes nothing.
 use mathlib.Core.Bool.{Bool, true, false, _&&_, _||_}
 use mathlib.Core.List.{List}
-use mathlib.Core.Path.{_≡_, sym}
+use mathlib.Core.Path.{_≡_, refl, sym}
 use Prim.Native.Nat.{ℕ, _+_, _/_, _%_, _<_, min, max}
 use native.Mathlib.Omega.{arith}
 use borrow.Author.Count.{below-more}
 use lib.ListN.{length, set, length-set}
-use lib.Seq.{getD-set-same, getD-set-other}
 use lib.Dec.{leb, ltb, eqb}
-use Rattle.sums.specs.At.{flag}
+use Rattle.sums.specs.At.{flag, Stored, store}
 use Rattle.sums.specs.Each.{each, each-of, of-yes}
 use Rattle.sums.specs.Sums.{when}
 use Rattle.sums.specs.Turns.{each-fails}
@@ -86,15 +85,19 @@ module _ {a b : List ℕ} {plan : Plan} where
     channel-long = simp length-set (was .channel-long);
   }
     where
+      crossing-now : Stored false crossing i (ltb from upto) (set crossing i (ltb from upto))
+      crossing-now = store false crossing i (ltb from upto) (omega (arith, was .crossing-long))
+
+      lo-now : Stored 0 lo i from (set lo i from)
+      lo-now = store 0 lo i from (omega (arith, was .lo-long))
+
+      hi-now : Stored 0 hi i upto (set hi i upto)
+      hi-now = store 0 hi i upto (omega (arith, was .hi-long))
+
       before : (j : ℕ) → j < i → flag (set crossing i (ltb from upto)) j ≡ ltb (at (set lo i from) j) (at (set hi i upto) j)
       before j h =
           let ne : j ≡ i → ⊥ = λ q. omega arith in
-          rw (getD-set-other crossing i j (ltb from upto) false ne, getD-set-other lo i j from 0 ne, getD-set-other hi i j upto 0 ne) (was .so-far .crossing-is j h)
+          rw (crossing-now .elsewhere j ne, lo-now .elsewhere j ne, hi-now .elsewhere j ne) (was .so-far .crossing-is j h)
 
       here : flag (set crossing i (ltb from upto)) i ≡ ltb (at (set lo i from) i) (at (set hi i upto) i)
-      here =
-          rw (
-            getD-set-same crossing i (ltb from upto) false (omega (arith, was .crossing-long)),
-            getD-set-same lo i from 0 (omega (arith, was .lo-long)),
-            getD-set-same hi i upto 0 (omega (arith, was .hi-long)),
-          )
+      here = rw (crossing-now .here i refl, lo-now .here i refl, hi-now .here i refl)

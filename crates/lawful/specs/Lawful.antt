@@ -4,10 +4,12 @@ use mathlib.Core.Path.{_≡_, sym, ap, _∙_}
 use mathlib.Core.Bool.{Bool, Bool·not-not, true, false, _&&_}
 use mathlib.Core.List.{List}
 use mathlib.Core.Logic.{⊎-elim}
-use Prim.Native.Nat.{ℕ, _/_, _≤_, _<_, min, max}
+use Prim.Native.Nat.{ℕ, _/_, _<_, min, max}
 use native.Mathlib.Omega.{arith}
 use borrow.Author.Tests.{eqb-true}
-use lib.Dec.{leb, ltb, eqb}
+use lib.Dec.{eqb}
+use Rattle.sums.specs.At.{NumbersBelow}
+use Rattle.sums.specs.Between.{isBetween, not-between}
 use Rattle.sums.specs.Each.{each, each-at, each-of, decided, of-yes, same-test}
 use Rattle.sums.specs.Sums.{bit, when-le, when-upto, when-no, Σ-ext}
 use Rattle.sums.specs.Tests.{implied}
@@ -24,9 +26,9 @@ use Rattle.lines.specs.RowOf.{rowOf}
 use Rattle.lines.specs.Ways.{line-way}
 use Rattle.lines.specs.Obeys.{formed-has}
 use Rattle.lines.specs.Laid.{Laid, over-covers}
-use Rattle.lawful.specs.Drawn.{Drawn, EndsBelow}
+use Rattle.lawful.specs.Drawn.{Drawn}
 use Rattle.lawful.specs.Entry.{formedAt, formedIn, PlanLaidOut}
-use Rattle.lawful.specs.Spans.{over, over-late, FairOn, FairSpans, CanSweep, Decides}
+use Rattle.lawful.specs.Spans.{over, FairOn, FairSpans, CanSweep, Decides}
 use Rattle.lawful.specs.SpanBySpan.{formedOr, obeys-formed, obeys-on, on-obeys}
 
 -- the same requests, channels and limit, said in another way
@@ -42,17 +44,19 @@ fair-as {count} {f} {g} same held lim fair = record {
 
 -- a plan's columns can be swept: an entry's channel is below 256, whatever the entry is
 pub can-sweep :
-    {count : ℕ} {a b lo hi held : List ℕ} {crossing : List Bool} {plan : Plan} → count ≤ 256 → EndsBelow 64 count a b → PlanLaidOut count a b plan lo hi crossing held
+    {count : ℕ} {a b lo hi held : List ℕ} {crossing : List Bool} {plan : Plan} → NumbersBelow 64 count a → NumbersBelow 64 count b → PlanLaidOut count a b plan lo hi crossing held
     → CanSweep count lo hi crossing held
 unfolding channel
-can-sweep {a = a} {b} {plan = plan} few ends laid-out = record {
+can-sweep {a = a} {b} {plan = plan} a-in b-in laid-out = record {
   between = record {
-    count-upto = few;
     upward = λ i l. omega (arith, laid-out .lo-is .is i l, laid-out .hi-is .is i l, when-upto (kept plan i) (min (at a i) (at b i)) (max (at a i) (at b i)) (omega arith));
-    in-line = λ i l. omega (arith, laid-out .hi-is .is i l, when-le (kept plan i) (max (at a i) (at b i)), ends .a-below i l, ends .b-below i l);
+    in-line = record {
+      few = a-in .few;
+      below = λ i l. omega (arith, laid-out .hi-is .is i l, when-le (kept plan i) (max (at a i) (at b i)), a-in .below i l, b-in .below i l);
+    };
   };
   real = laid-out .crossing-is;
-  below = λ i l. omega (arith, laid-out .channel-is .is i l);
+  held = record { few = a-in .few; below = λ i l. omega (arith, laid-out .channel-is .is i l) };
 }
 
 module _ {book : Book} (on : Line book) (plan : Plan) where
@@ -76,12 +80,12 @@ module _
     unfolding covers rowOf
     over-columns laid s i l = over-covers (drawn .on) laid i s (omega (arith, drawn .counted)) ∙ ⊎-elim yes-kept not-kept (decided (kept plan i))
       where
-        yes-kept : kept plan i ≡ true → (kept plan i && (leb (min (endA book i) (endB book i)) s && ltb s (max (endA book i) (endB book i)))) ≡ over lo hi s i
+        yes-kept : kept plan i ≡ true → (kept plan i && isBetween (min (endA book i) (endB book i)) (max (endA book i) (endB book i)) s) ≡ over lo hi s i
         yes-kept k = rw (laid-out .lo-is .is i l, laid-out .hi-is .is i l, k, drawn .a-is .is i l, drawn .b-is .is i l)
 
-        not-kept : kept plan i ≡ false → (kept plan i && (leb (min (endA book i) (endB book i)) s && ltb s (max (endA book i) (endB book i)))) ≡ over lo hi s i
+        not-kept : kept plan i ≡ false → (kept plan i && isBetween (min (endA book i) (endB book i)) (max (endA book i) (endB book i)) s) ≡ over lo hi s i
         not-kept k =
-            rw k (sym (over-late lo hi s i (omega (arith, laid-out .hi-is .is i l, when-no (kept plan i) (max (at a i) (at b i)) k))))
+            rw k (sym (not-between (at lo i) (at hi i) s (omega (arith, laid-out .hi-is .is i l, when-no (kept plan i) (max (at a i) (at b i)) k))))
 
     -- so a span is fair by the columns exactly when it is fair by the rules
     by-columns : (s : ℕ) → s < spans → Laid book plan

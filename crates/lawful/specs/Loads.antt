@@ -1,6 +1,5 @@
 -- The loads along a line, by counting ends. How many begin and how many end at each node is counted once; then on the way from span to span those that begin
 -- are added and those that end taken off, and what is left is the number that cross the span. Assumes nothing.
-use mathlib.Core.Bool.{_&&_}
 use mathlib.Core.List.{List}
 use mathlib.Core.Logic.{⊎-elim}
 use mathlib.Core.Path.{_≡_, refl, sym, _∙_}
@@ -9,32 +8,19 @@ use native.Mathlib.Omega.{arith}
 use borrow.Author.Count.{below-more}
 use borrow.Author.Tests.{lt-ltb, le-ltb, lt-leb, le-leb, eq-eqb, ne-eqb}
 use lib.ListN.{set, replicate, length, length-set}
-use lib.Seq.{getD-set-same, getD-set-other}
 use lib.Dec.{leb, ltb, eqb}
-use Rattle.sums.specs.At.{zeros}
+use Rattle.sums.specs.At.{zeros, Stored, store}
+use Rattle.sums.specs.Between.{isBetween}
 use Rattle.sums.specs.Each.{less-or-not, same-or-not}
 use Rattle.sums.specs.Sums.{Σ, bit, bit-le, Σ-ext, Σ-add, Σ-most, Σ-zero}
 use Rattle.sums.specs.Turns.{Σ-more}
 use Rattle.book.specs.Columns.{at}
-use Rattle.lawful.specs.Spans.{over, WithinSpans, Between}
+use Rattle.lawful.specs.Spans.{over, WithinSpans}
 
 -- the first `count` of a column of nodes, counted by node
 pub record Tallied (count : ℕ) (nodes tally : List ℕ) : Type 0 where
   pub long : length tally ≡ 64
   pub is : (v : ℕ) → v < 64 → at tally v ≡ Σ count (λ i. bit (eqb (at nodes i) v))
-
--- at most 256 nodes, each a place of the tally
-pub record CanTally (count : ℕ) (nodes : List ℕ) : Type 0 where
-  pub count-upto : count ≤ 256
-  pub below : (i : ℕ) → i < count → at nodes i < 64
-
--- both columns of ends are such
-module _ {count : ℕ} {lo hi : List ℕ} (can : Between count lo hi) where
-  pub tally-lo : CanTally count lo
-  tally-lo = record { count-upto = can .count-upto; below = λ i l. omega (arith, can .upward i l, can .in-line i l) }
-
-  pub tally-hi : CanTally count hi
-  tally-hi = record { count-upto = can .count-upto; below = can .in-line }
 
 module _ {nodes : List ℕ} where
   pub tallied-none : Tallied 0 nodes (replicate 64 0)
@@ -52,18 +38,21 @@ module _ {nodes : List ℕ} where
         one : bit (eqb (at nodes i) (at nodes i)) ≡ 1
         one = rw (eq-eqb (at nodes i) (at nodes i) refl)
 
+        counted : Stored 0 tally (at nodes i) (at tally (at nodes i) + 1) (set tally (at nodes i) (at tally (at nodes i) + 1))
+        counted = store 0 tally (at nodes i) (at tally (at nodes i) + 1) (omega (arith, was .long))
+
         is : (v : ℕ) → v < 64 → at (set tally (at nodes i) (at tally (at nodes i) + 1)) v ≡ Σ (i + 1) (λ j. bit (eqb (at nodes j) v))
         is v l = ⊎-elim here elsewhere (same-or-not v (at nodes i))
           where
             here : v ≡ at nodes i → at (set tally (at nodes i) (at tally (at nodes i) + 1)) v ≡ Σ (i + 1) (λ j. bit (eqb (at nodes j) v))
             here q =
-                rw (q, getD-set-same tally (at nodes i) (at tally (at nodes i) + 1) 0 (omega (arith, was .long)))
+                rw (counted .here v q, q)
                 (omega (arith, was .is (at nodes i) small, Σ-more i (λ j. bit (eqb (at nodes j) (at nodes i))), one))
 
             elsewhere : (v ≡ at nodes i → ⊥) → at (set tally (at nodes i) (at tally (at nodes i) + 1)) v ≡ Σ (i + 1) (λ j. bit (eqb (at nodes j) v))
             elsewhere ne =
                 let none : bit (eqb (at nodes i) v) ≡ 0 = rw (ne-eqb (at nodes i) v (λ q. ne (sym q))) in
-                rw (getD-set-other tally (at nodes i) v (at tally (at nodes i) + 1) 0 ne) (omega (arith, was .is v l, Σ-more i (λ j. bit (eqb (at nodes j) v)), none))
+                rw (counted .elsewhere v ne) (omega (arith, was .is v l, Σ-more i (λ j. bit (eqb (at nodes j) v)), none))
 
 -- ---- from span to span
 
@@ -82,10 +71,10 @@ before-next x s =
     (less-or-not s x)
 
 -- what begins by node s crosses the span after it, or has ended
-crosses-or-ended : (x y s : ℕ) → x ≤ y → bit (leb x s && ltb s y) + bit (leb y s) ≡ bit (leb x s)
+crosses-or-ended : (x y s : ℕ) → x ≤ y → bit (isBetween x y s) + bit (leb y s) ≡ bit (leb x s)
 crosses-or-ended x y s up = ⊎-elim (λ (h : s < x). rw (lt-leb x s h, lt-leb y s (omega arith))) begun (less-or-not s x)
   where
-    begun : x ≤ s → bit (leb x s && ltb s y) + bit (leb y s) ≡ bit (leb x s)
+    begun : x ≤ s → bit (isBetween x y s) + bit (leb y s) ≡ bit (leb x s)
     begun h =
         ⊎-elim (λ (g : s < y). rw (le-leb x s h, lt-ltb s y g, lt-leb y s g)) (λ (g : y ≤ s). rw (le-leb x s h, le-ltb s y g, le-leb y s g))
         (less-or-not s y)

@@ -1,13 +1,14 @@
 -- One span at a time: those that cross it have different channels and are at most its limit. The two are decided apart, the channels by specs/Sweep and
 -- the loads by specs/Loads, and are said of a plan laid out in columns; `CanSweep` says what the columns are. Assumes nothing.
 use mathlib.Core.Path.{_≡_, sym, _∙_}
-use mathlib.Core.Bool.{Bool, true, false, _&&_, and-false}
+use mathlib.Core.Bool.{Bool, true, false}
 use mathlib.Core.List.{List}
 use Prim.Native.Nat.{ℕ, _≤_, _<_}
-use borrow.Author.Tests.{leb-true, ltb-true, le-leb, lt-ltb, le-ltb}
-use lib.Dec.{leb, ltb}
-use Rattle.sums.specs.At.{flag}
-use Rattle.sums.specs.Each.{both, left-of, right-of, of-yes}
+use native.Mathlib.Omega.{arith}
+use lib.Dec.{ltb}
+use Rattle.sums.specs.At.{flag, NumbersBelow}
+use Rattle.sums.specs.Between.{isBetween}
+use Rattle.sums.specs.Each.{of-yes}
 use Rattle.sums.specs.Sums.{Σ, bit}
 use Rattle.book.specs.Columns.{at}
 
@@ -18,20 +19,7 @@ pub record Decides (answer : Bool) (P : Type 0) : Type 0 where
 
 -- request i of a plan laid out in columns crosses span s
 abbrev pub over : List ℕ → List ℕ → ℕ → ℕ → Bool
-over lo hi s i = leb (at lo i) s && ltb s (at hi i)
-
-module _ (lo hi : List ℕ) (s i : ℕ) where
-  pub over-yes : at lo i ≤ s → s < at hi i → over lo hi s i ≡ true
-  over-yes l h = both _ _ (le-leb _ _ l) (lt-ltb _ _ h)
-
-  pub over-from : over lo hi s i ≡ true → at lo i ≤ s
-  over-from e = leb-true _ _ (left-of (leb (at lo i) s) _ e)
-
-  pub over-before : over lo hi s i ≡ true → s < at hi i
-  over-before e = ltb-true _ _ (right-of (leb (at lo i) s) _ e)
-
-  pub over-late : at hi i ≤ s → over lo hi s i ≡ false
-  over-late h = rw (le-ltb s (at hi i) h, and-false)
+over lo hi s i = isBetween (at lo i) (at hi i) s
 
 -- no earlier one that crosses has the channel of request i
 abbrev pub Alone : (ℕ → Bool) → (ℕ → ℕ) → ℕ → Type 0
@@ -68,12 +56,15 @@ module _ {spans count : ℕ} {limits lo hi channels : List ℕ} where
 
 -- at most 256 requests, each from a node up to another below 64
 pub record Between (count : ℕ) (lo hi : List ℕ) : Type 0 where
-  pub count-upto : count ≤ 256
   pub upward : (i : ℕ) → i < count → at lo i ≤ at hi i
-  pub in-line : (i : ℕ) → i < count → at hi i < 64
+  pub in-line : NumbersBelow 64 count hi
+
+-- so their first nodes are below 64, and below any bound from there on
+pub begin-below : {count : ℕ} {lo hi : List ℕ} (bound : ℕ) → 64 ≤ bound → Between count lo hi → NumbersBelow bound count lo
+begin-below bound upto can = record { few = can .in-line .few; below = λ i l. omega (arith, can .upward i l, can .in-line .below i l) }
 
 -- and a flag for those that cross a span at all, and channels below 256, as an entry's are
 pub record CanSweep (count : ℕ) (lo hi : List ℕ) (crossing : List Bool) (channels : List ℕ) : Type 0 where
   pub between : Between count lo hi
   pub real : (i : ℕ) → i < count → flag crossing i ≡ ltb (at lo i) (at hi i)
-  pub below : (i : ℕ) → i < count → at channels i < 256
+  pub held : NumbersBelow 256 count channels

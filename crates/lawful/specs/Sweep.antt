@@ -9,13 +9,13 @@ use Prim.Native.Nat.{ℕ, _+_, _≤_, _<_}
 use native.Mathlib.Omega.{arith}
 use borrow.Author.Tests.{ltb-true, lt-ltb}
 use lib.ListN.{set, replicate, length, length-set}
-use lib.Seq.{getD-set-same, getD-set-other}
-use Rattle.sums.specs.At.{flag, zeros}
+use Rattle.sums.specs.At.{flag, zeros, Stored, store}
+use Rattle.sums.specs.Between.{is-between, between-from, between-upto}
 use Rattle.sums.specs.Each.{less-or-not, same-or-not, not-above}
 use Rattle.book.specs.Columns.{at}
-use Rattle.channels.specs.Lists.{CanList, Leads}
+use Rattle.channels.specs.Lists.{Leads}
 use Rattle.channels.specs.Stages.{place, passed-over}
-use Rattle.lawful.specs.Spans.{over, over-yes, over-from, over-before, ApartSpans, CanSweep}
+use Rattle.lawful.specs.Spans.{over, ApartSpans, CanSweep}
 
 -- request j crosses a span, and its turn is before that of number i at node v
 pub record Had (count : ℕ) (lo : List ℕ) (crossing : List Bool) (v i j : ℕ) : Type 0 where
@@ -58,9 +58,6 @@ clash-not-apart l c apart =
     later h = not-above (λ g. c .differ (omega arith))
 
 module _ {count : ℕ} {lo hi : List ℕ} {crossing : List Bool} {channels : List ℕ} (can : CanSweep count lo hi crossing channels) where
-  pub can-list : CanList count lo
-  can-list = record { count-upto = can .between .count-upto; below = λ j l. omega (arith, can .between .upward j l, can .between .in-line j l) }
-
   -- no turn was had yet
   pub swept-start : Swept count lo hi crossing channels (replicate 256 0) 0 0
   swept-start = record {
@@ -91,11 +88,11 @@ module _ {count : ℕ} {lo hi : List ℕ} {crossing : List Bool} {channels : Lis
 
   -- the numbers from i to p are passed over: none of them crosses a span and begins at v
   pub swept-pass : {ends : List ℕ} {v i p : ℕ} → Swept count lo hi crossing channels ends v i → Leads count i v lo crossing p → Swept count lo hi crossing channels ends v p
-  swept-pass was m = same-turn was (λ j l r h. omega (arith, m .on)) (λ j l r h. passed-over (can .between .count-upto) m l r h)
+  swept-pass was m = same-turn was (λ j l r h. omega (arith, m .on)) (λ j l r h. passed-over (can .between .in-line .few) m l r h)
 
   -- every number had its turn at node v, whose places end where the next one's begin
   pub swept-next : {ends : List ℕ} {v i : ℕ} → Swept count lo hi crossing channels ends v i → count ≤ i → i ≤ 256 → Swept count lo hi crossing channels ends (v + 1) 0
-  swept-next was past upto = same-turn was (λ j l r h. omega arith) (λ j l r h. omega (arith, can .between .count-upto))
+  swept-next was past upto = same-turn was (λ j l r h. omega arith) (λ j l r h. omega (arith, can .between .in-line .few))
 
   -- after the last span's turn all that cross a span had theirs
   pub swept-all : {ends : List ℕ} {spans : ℕ} → Swept count lo hi crossing channels ends spans 0 → ApartSpans spans count lo hi channels
@@ -103,9 +100,9 @@ module _ {count : ℕ} {lo hi : List ℕ} {crossing : List Bool} {channels : Lis
     where
       had : (s : ℕ) → s < spans → (i : ℕ) → i < count → over lo hi s i ≡ true → Had count lo crossing spans 0 i
       had s l i li oi =
-          let from = over-from lo hi s i oi in
-          let before = over-before lo hi s i oi in
-          record { low = li; real = can .real i li ∙ lt-ltb (at lo i) (at hi i) (omega arith); early = omega (arith, can .between .count-upto) }
+          let from = between-from (at lo i) (at hi i) s oi in
+          let before = between-upto (at lo i) (at hi i) s oi in
+          record { low = li; real = can .real i li ∙ lt-ltb (at lo i) (at hi i) (omega arith); early = omega (arith, can .between .in-line .few) }
 
   -- number i begins at node v, whose turn it is
   module _
@@ -115,7 +112,7 @@ module _ {count : ℕ} {lo hi : List ℕ} {crossing : List Bool} {channels : Lis
       past = let up = ltb-true (at lo i) (at hi i) (sym (can .real i l) ∙ is) in omega arith
 
       crosses : over lo hi v i ≡ true
-      crosses = over-yes lo hi v i (omega arith) past
+      crosses = is-between (at lo i) (at hi i) v (omega arith) past
 
       -- the latest on its channel reaches past v
       pub swept-clash : v < at ends (at channels i) → Clash count lo hi channels v
@@ -125,7 +122,7 @@ module _ {count : ℕ} {lo hi : List ℕ} {crossing : List Bool} {channels : Lis
         one-low = had .low;
         other-low = l;
         differ = λ q. let at-i : place (at lo i) i < place v i = rw q at (had .early) in omega arith;
-        one-over = over-yes lo hi v j (omega (arith, had .early, can .between .count-upto)) (omega (arith, last .3));
+        one-over = is-between (at lo j) (at hi j) v (omega (arith, had .early, can .between .in-line .few)) (omega (arith, last .3));
         other-over = crosses;
         same = last .2;
       }
@@ -144,18 +141,15 @@ module _ {count : ℕ} {lo hi : List ℕ} {crossing : List Bool} {channels : Lis
         abbrev after : List ℕ
         after = set ends (at channels i) (at hi i)
 
-        own : at after (at channels i) ≡ at hi i
-        own = getD-set-same ends (at channels i) (at hi i) 0 (omega (arith, was .long, can .below i l))
-
-        others : (c : ℕ) → (c ≡ at channels i → ⊥) → at after c ≡ at ends c
-        others c ne = getD-set-other ends (at channels i) c (at hi i) 0 ne
+        latest : Stored 0 ends (at channels i) (at hi i) after
+        latest = store 0 ends (at channels i) (at hi i) (omega (arith, was .long, can .held .below i l))
 
         -- those before the next turn are i and those before
         older : (j : ℕ) → (j ≡ i → ⊥) → Had count lo crossing v (i + 1) j → Had count lo crossing v i j
         older j ne h = record { low = h .low; real = h .real; early = less }
           where
             less : place (at lo j) j < place v i
-            less = not-above (λ g. ne (omega (arith, h .early, h .low, can .between .count-upto)))
+            less = not-above (λ g. ne (omega (arith, h .early, h .low, can .between .in-line .few)))
 
         newer : (j : ℕ) → Had count lo crossing v i j → Had count lo crossing v (i + 1) j
         newer j h = record { low = h .low; real = h .real; early = omega (arith, h .early) }
@@ -165,26 +159,26 @@ module _ {count : ℕ} {lo hi : List ℕ} {crossing : List Bool} {channels : Lis
         earlier-ends j h q = let upto : at hi j ≤ at ends (at channels i) = rw q at (was .upto j h) in omega arith
 
         no-span : (j s : ℕ) → Had count lo crossing v i j → over lo hi s j ≡ true → over lo hi s i ≡ true → at channels j ≡ at channels i → ⊥
-        no-span j s h oj oi q = omega (arith, earlier-ends j h q, over-before lo hi s j oj, over-from lo hi s i oi)
+        no-span j s h oj oi q = omega (arith, earlier-ends j h q, between-upto (at lo j) (at hi j) s oj, between-from (at lo i) (at hi i) s oi)
 
         pub swept-more : Swept count lo hi crossing channels (set ends (at channels i) (at hi i)) v (i + 1)
         swept-more = record { long = length-set ends (at channels i) (at hi i) ∙ was .long; upto = upto; by = by; apart = apart }
           where
             upto : (j : ℕ) → Had count lo crossing v (i + 1) j → at hi j ≤ at after (at channels j)
-            upto j h = ⊎-elim (λ (q : j ≡ i). rw (q, own) (omega arith)) (λ ne. before (older j ne h)) (same-or-not j i)
+            upto j h = ⊎-elim (λ (q : j ≡ i). rw (q, latest .here (at channels i) refl) (omega arith)) (λ ne. before (older j ne h)) (same-or-not j i)
               where
                 before : Had count lo crossing v i j → at hi j ≤ at after (at channels j)
                 before g =
-                    ⊎-elim (λ (q : at channels j ≡ at channels i). rw (q, own) (omega (arith, earlier-ends j g q, past)))
-                    (λ ne. rw (others (at channels j) ne) (was .upto j g)) (same-or-not (at channels j) (at channels i))
+                    ⊎-elim (λ (q : at channels j ≡ at channels i). rw (latest .here (at channels j) q) (omega (arith, earlier-ends j g q, past)))
+                    (λ ne. rw (latest .elsewhere (at channels j) ne) (was .upto j g)) (same-or-not (at channels j) (at channels i))
 
             by : (c : ℕ) → 0 < at after c → (j : ℕ) × Had count lo crossing v (i + 1) j × (at channels j ≡ c) × (at hi j ≡ at after c)
             by c h =
-                ⊎-elim (λ (q : c ≡ at channels i). (i, record { low = l; real = is; early = omega arith }, sym q, rw q (sym own)))
+                ⊎-elim (λ (q : c ≡ at channels i). (i, record { low = l; real = is; early = omega arith }, sym q, sym (latest .here c q)))
                 (λ ne. old ne) (same-or-not c (at channels i))
               where
                 old : (c ≡ at channels i → ⊥) → (j : ℕ) × Had count lo crossing v (i + 1) j × (at channels j ≡ c) × (at hi j ≡ at after c)
-                old ne = let last = was .by c (rw (others c ne) at h) in (last .0, newer (last .0) (last .1), last .2, last .3 ∙ sym (others c ne))
+                old ne = let last = was .by c (rw (latest .elsewhere c ne) at h) in (last .0, newer (last .0) (last .1), last .2, last .3 ∙ sym (latest .elsewhere c ne))
 
             apart :
                 (j k s : ℕ) → Had count lo crossing v (i + 1) j → Had count lo crossing v (i + 1) k → (j ≡ k → ⊥)

@@ -5,12 +5,13 @@ ghost use mathlib.Core.Bool.{not};
 ghost use Prim.Native.Nat.{_+_, _*_, _≤_, min, max};
 ghost use lib.ListN.{length};
 ghost use lib.Dec.{eqb};
+ghost use Rattle.sums.specs.At.{NumbersBelow};
 ghost use Rattle.sums.specs.Sums.{when};
 ghost use Rattle.book.specs.Book.{Book};
 ghost use Rattle.book.specs.Bytes.{entryIn};
 ghost use Rattle.rules.specs.Ways.{wayFrom};
 ghost use Rattle.rules.specs.Plans.{obeys};
-ghost use Rattle.lawful.specs.Drawn.{Drawn, EndsBelow};
+ghost use Rattle.lawful.specs.Drawn.{Drawn};
 ghost use Rattle.lawful.specs.Entry.{formedAt, LayingPlan, Lays};
 
 mod ends;
@@ -114,8 +115,8 @@ pub fn lawful(
     b: &[usize; 256],
     entries: &[u8],
 ) -> bool
-    requires { ⌜ (spans ≤ 64) × (count ≤ 256) × (2 * count ≤ length (now entries)) ⌝ }
-    requires { ⌜ EndsBelow 64 count (now a) (now b) ⌝ }
+    requires { ⌜ (spans ≤ 64) × (2 * count ≤ length (now entries)) ⌝ }
+    requires { ⌜ NumbersBelow 64 count (now a) × NumbersBelow 64 count (now b) ⌝ }
     ensures { λ r. ⌜ ((book : Book) → Drawn book spans (now (limits .entry)) count (now (a .entry)) (now (b .entry)) → channels ≡ book .channels → r ≡ obeys book (entryIn (now (entries .entry)))) ⌝ }
 {
     let mut lo = [0usize; 256];

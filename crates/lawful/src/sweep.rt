@@ -1,13 +1,14 @@
 // One sweep along the line decides the spans, with a step for each request and each span: how many cross a span, and whether two of them have one channel.
 ghost use Prim.Native.Nat.{_≤_, _<_};
+ghost use Rattle.sums.specs.At.{NumbersBelow};
 ghost use Rattle.channels.specs.Lists.{ListedByNode};
 ghost use Rattle.lawful.specs.Spans.{Decides, Between, CanSweep, WithinSpans, ApartSpans};
-ghost use Rattle.lawful.specs.Loads.{CanTally, Tallied};
+ghost use Rattle.lawful.specs.Loads.{Tallied};
 ghost use Rattle.lawful.specs.Sweep.{Swept, Passed};
 
 // Counts a column of nodes by node.
 fn tally_up(count: usize, nodes: &[usize; 256], tally: &mut [usize; 64])
-    requires { ⌜ CanTally count (now nodes) ⌝ }
+    requires { ⌜ NumbersBelow 64 count (now nodes) ⌝ }
     requires { ⌜ Tallied 0 (now nodes) (now tally) ⌝ }
     ensures { λ r. ⌜ Tallied count (now (nodes .entry)) (now (tally .exit)) ⌝ }
 {

@@ -3,10 +3,12 @@
 use mathlib.Core.Path.{_≡_, refl, sym, _∙_}
 use mathlib.Core.Bool.{true}
 use Prim.Native.Nat.{ℕ, _≤_, _<_}
+use native.Mathlib.Omega.{arith}
 use borrow.Author.Tests.{eq-eqb}
 use Rattle.book.specs.Book.{Book, spans, limit, count}
 use Rattle.rules.specs.Plans.{Plan, kept, way, channel, over, load, obeys}
 use Rattle.rules.specs.Channels.{byRule}
+use Rattle.row.specs.Row
 use Rattle.row.specs.Channels.{Ruled, from-one, found, told-apart, ruled-once}
 use Rattle.row.specs.Same.{itself, ruled-same}
 use Rattle.lines.specs.RowOf.{rowOf}
@@ -21,11 +23,14 @@ module _
     {book : Book} {plan : Plan}
     (on : Line book) (laid : Laid book plan) (within : (s : ℕ) → s < spans book → load book plan s ≤ limit book s) (rule : byRule book plan ≡ true)
   where
+    -- no limit is above k
+    fits : (s : ℕ) → s < rowOf book .cells → Row.load (rowOf book) (kept plan) s ≤ book .channels
+    unfolding rowOf
+    fits s l = omega (arith, within-row on laid within .holds s l, on .sound .limit-upto s l)
+
     pub channel-found : (i : ℕ) → i < count book → kept plan i ≡ true → channel plan i ≤ book .channels
     unfolding rowOf
-    channel-found =
-        found (rowOf book) (book .channels) (kept plan) (channel plan) (within-row on laid within) (proper on) (on .sound .limit-upto)
-        (rule-ruled on laid rule)
+    channel-found = found (rowOf book) (book .channels) (kept plan) (channel plan) fits (proper on) (rule-ruled on laid rule)
 
     differ :
         (i j s : ℕ) → i < count book → j < count book → s < spans book → over book plan i s ≡ true → over book plan j s ≡ true
@@ -33,8 +38,7 @@ module _
     unfolding rowOf
     differ i j s li lj ls oi oj ne =
         let meets = all-three _ _ _ (sym (share-meet on laid i j li lj) ∙ share-of book plan i j s ls oi oj) in
-        told-apart (rowOf book) (book .channels) (kept plan) (channel plan) (within-row on laid within) (proper on) (on .sound .limit-upto)
-        (rule-ruled on laid rule) i j li lj (meets .0) (meets .1) ne (meets .2)
+        told-apart (rowOf book) (book .channels) (kept plan) (channel plan) fits (proper on) (rule-ruled on laid rule) i j li lj (meets .0) (meets .1) ne (meets .2)
 
     pub rule-obeys : obeys book plan ≡ true
     unfolding rowOf

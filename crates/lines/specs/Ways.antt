@@ -1,12 +1,13 @@
 -- On a line a request has one way, and it crosses the spans between the two ends, which are the cells that the request is over in the row.
 -- Way 1 goes up from a and way 2 up from b, and the one that exists is the one that begins at the lower end. Assumes nothing.
 use mathlib.Core.Path.{_≡_}
-use mathlib.Core.Bool.{Bool, true, false, _&&_, cond, and-true, and-false, or-false}
+use mathlib.Core.Bool.{Bool, true, false, cond, and-true, and-false, or-false}
 use mathlib.Core.Logic.{⊎-elim}
 use Prim.Native.Nat.{ℕ, _-_, _≤_, _<_}
 use native.Mathlib.Omega.{arith}
 use borrow.Author.Tests.{lt-ltb, le-ltb}
-use lib.Dec.{leb, ltb, eqb}
+use lib.Dec.{ltb, eqb}
+use Rattle.sums.specs.Between.{isBetween}
 use Rattle.sums.specs.Each.{less-or-not}
 use Rattle.book.specs.Book.{Book, isRing, spansOf, spans, count, endA, endB}
 use Rattle.rules.specs.Ways.{upward, crosses, wayExists, wayFrom, lineWay, crossed}
@@ -56,14 +57,14 @@ module _ {book : Book} (on : Line book) where
   crossed-covers i s l = ⊎-elim up down (less-or-not (endA book i) (endB book i))
     where
       -- the spans from u up to v
-      between : (u v u′ v′ : ℕ) → u ≡ u′ → v ≡ v′ → (leb u s && ltb s v) ≡ (leb u′ s && ltb s v′)
-      between u v u′ v′ p q = rw (p, q)
+      same-ends : (u v u′ v′ : ℕ) → u ≡ u′ → v ≡ v′ → isBetween u v s ≡ isBetween u′ v′ s
+      same-ends u v u′ v′ p q = rw (p, q)
 
       up : endA book i < endB book i → crossed book i s ≡ covers (rowOf book) i s
-      up h = rw (lt-ltb _ _ h, or-false) (between _ _ _ _ (omega arith) (omega arith))
+      up h = rw (lt-ltb _ _ h, or-false) (same-ends _ _ _ _ (omega arith) (omega arith))
 
       down : endB book i ≤ endA book i → crossed book i s ≡ covers (rowOf book) i s
-      down h = rw (le-ltb _ _ h, lt-ltb _ _ (b-lower i l h)) (between _ _ _ _ (omega arith) (omega arith))
+      down h = rw (le-ltb _ _ h, lt-ltb _ _ (b-lower i l h)) (same-ends _ _ _ _ (omega arith) (omega arith))
 
   -- every candidate is a real interval of the row
   pub proper : Proper (rowOf book) (rowOf book .count)

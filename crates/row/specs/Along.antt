@@ -1,13 +1,13 @@
 -- Prices along an interval of cells: the cells below its end are those below its start and its own, so its fare is what the prices below its end
 -- come to above those below its start. Assumes nothing.
 use mathlib.Core.Path.{_≡_}
-use mathlib.Core.Bool.{_&&_}
 use mathlib.Core.Logic.{⊎-elim}
 use Prim.Native.Nat.{ℕ, zero, suc, _+_, _≤_, _<_}
 use native.Mathlib.Nat.{eq-or-lt-of-le, le-trans}
 use native.Mathlib.Omega.{arith}
-use lib.Dec.{leb, ltb}
+use lib.Dec.{ltb}
 use borrow.Author.Tests.{lt-leb, le-leb, lt-ltb, le-ltb}
+use Rattle.sums.specs.Between.{isBetween}
 use Rattle.sums.specs.Each.{less-or-not}
 use Rattle.sums.specs.Sums.{Σ, when, Σ-ext, Σ-add, when-yes}
 use Rattle.row.specs.Row.{Row, covers, fare}
@@ -23,7 +23,7 @@ below (suc n) k f l =
     (eq-or-lt-of-le l)
 
 -- the cells below hi are those below lo and those from lo on
-apart : (lo hi j p : ℕ) → lo ≤ hi → when (leb lo j && ltb j hi) p + when (ltb j lo) p ≡ when (ltb j hi) p
+apart : (lo hi j p : ℕ) → lo ≤ hi → when (isBetween lo hi j) p + when (ltb j lo) p ≡ when (ltb j hi) p
 apart lo hi j p o = ⊎-elim (λ l. rw (lt-leb lo j l, lt-ltb j lo l, lt-ltb j hi (le-trans l o)) (omega arith)) (λ l. rw (le-leb lo j l, le-ltb j lo l) (omega arith)) (less-or-not j lo)
 
 pub fare-along : (row : Row) (y : ℕ → ℕ) (i : ℕ) → row .lo i ≤ row .hi i → row .hi i ≤ row .cells → fare row y i + Σ (row .lo i) y ≡ Σ (row .hi i) y

@@ -12,7 +12,7 @@ use Rattle.sums.specs.Each.{some-at, some-of, some-ext, both, left-of, right-of
 use Rattle.sums.specs.Tests.{when-so}
 use Rattle.sums.specs.Lowest.{lowestFree, lowest-from, lowest-free, lowest-held, lowest-ext}
 use Rattle.sums.specs.Pigeons.{holders}
-use Rattle.row.specs.Row.{Row, Proper, covers, load, WithinLimits, before, meet, heldBefore}
+use Rattle.row.specs.Row.{Row, Proper, covers, load, before, meet, heldBefore}
 use Rattle.row.specs.Meets.{covers-of, meet-sym, before-or, before-covers, rank, before-rank}
 
 -- the channels follow the rule: each kept candidate has the lowest channel that no earlier kept one that meets it holds
@@ -82,17 +82,16 @@ module _ (row : Row) (k : ℕ) (x : ℕ → Bool) (channel : ℕ → ℕ) (ruled
   unfolding load
   at-most-load i l e some = holders (row .count) (channel i) _ channel (seen i l e some)
 
--- ---- the rule always finds one of 1 to k, and tells apart those that meet
+-- ---- where no cell is under more than k kept ones, the rule always finds one of 1 to k, and tells apart those that meet
 
 module _
     (row : Row) (k : ℕ) (x : ℕ → Bool) (channel : ℕ → ℕ)
-    (within : WithinLimits row x) (proper : Proper row (row .count)) (small : (j : ℕ) → j < row .cells → row .limit j ≤ k) (ruled : Ruled row k x channel)
+    (fits : (j : ℕ) → j < row .cells → load row x j ≤ k) (proper : Proper row (row .count)) (ruled : Ruled row k x channel)
   where
     pub found : (i : ℕ) → i < row .count → x i ≡ true → channel i ≤ k
     found i l e =
         let some : row .lo i < row .hi i = proper .some-cell i l in
-        let cell : row .lo i < row .cells = omega (arith, proper .in-row i l) in
-        omega (arith, at-most-load row k x channel ruled i l e some, within .holds (row .lo i) cell, small (row .lo i) cell)
+        omega (arith, at-most-load row k x channel ruled i l e some, fits (row .lo i) (omega (arith, proper .in-row i l)))
 
     -- the later of two finds the earlier one's channel held, and its own free
     apart : (i j : ℕ) → i < row .count → j < row .count → x i ≡ true → x j ≡ true → before row i j ≡ true → meet row i j ≡ true → channel i ≡ channel j → ⊥

@@ -6,8 +6,9 @@ use mathlib.Core.Logic.{_⊎_, inl, inr, ⊎-elim}
 use Prim.Native.Nat.{ℕ, _+_, _*_, _≤_, _<_}
 use native.Mathlib.Nat.{mul-le-mul-right}
 use native.Mathlib.Omega.{arith}
-use borrow.Author.Tests.{ltb-true, lt-ltb, leb-true, le-leb, eqb-true, eq-eqb}
-use lib.Dec.{leb, ltb, eqb}
+use borrow.Author.Tests.{ltb-true, lt-ltb, eqb-true, eq-eqb}
+use lib.Dec.{ltb, eqb}
+use Rattle.sums.specs.Between.{is-between, between-from, between-upto}
 use Rattle.sums.specs.Each.{some-at, some-ext, both, left-of, right-of, either, or-left, or-right, less-or-not}
 use Rattle.row.specs.Row.{Row, Proper, covers, before, meet}
 
@@ -19,15 +20,15 @@ first-in p i l = omega (arith, p .some-cell i l, p .in-row i l)
 
 pub covers-of : (row : Row) (i c : ℕ) → row .lo i ≤ c → c < row .hi i → covers row i c ≡ true
 unfolding covers
-covers-of row i c l h = both _ _ (le-leb _ _ l) (lt-ltb _ _ h)
+covers-of row i c = is-between (row .lo i) (row .hi i) c
 
 pub covers-from : (row : Row) (i c : ℕ) → covers row i c ≡ true → row .lo i ≤ c
 unfolding covers
-covers-from row i c e = leb-true _ _ (left-of _ _ e)
+covers-from row i c = between-from (row .lo i) (row .hi i) c
 
 pub covers-upto : (row : Row) (i c : ℕ) → covers row i c ≡ true → c < row .hi i
 unfolding covers
-covers-upto row i c e = ltb-true _ _ (right-of (leb (row .lo i) c) _ e)
+covers-upto row i c = between-upto (row .lo i) (row .hi i) c
 
 -- ---- two that meet
 

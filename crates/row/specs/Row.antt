@@ -4,7 +4,8 @@
 use mathlib.Core.Bool.{Bool, true, false, _&&_, _||_}
 use mathlib.Core.Path.{_≡_}
 use Prim.Native.Nat.{ℕ, _+_, _*_, _-_, _≤_, _<_}
-use lib.Dec.{leb, ltb, eqb}
+use lib.Dec.{ltb, eqb}
+use Rattle.sums.specs.Between.{isBetween}
 use Rattle.sums.specs.Each.{some}
 use Rattle.sums.specs.Sums.{Σ, when, bit}
 
@@ -23,7 +24,7 @@ pub record Proper (row : Row) (t : ℕ) : Type 0 where
 
 -- candidate i is over cell j
 unfoldable pub covers : Row → ℕ → ℕ → Bool
-covers row i j = leb (row .lo i) j && ltb j (row .hi i)
+covers row i j = isBetween (row .lo i) (row .hi i) j
 
 -- how many of the candidates that x keeps are over cell j, and what they earn together
 unfoldable pub load : Row → (ℕ → Bool) → ℕ → ℕ

@@ -5,7 +5,7 @@ use mathlib.Core.Path.{_≡_, refl, sym, ap, ap₂, _∙_}
 use mathlib.Core.Bool.{Bool, true, _&&_}
 use Prim.Native.Nat.{ℕ, _<_}
 use native.Mathlib.Omega.{arith}
-use lib.Dec.{leb, ltb, eqb}
+use lib.Dec.{eqb}
 use Rattle.sums.specs.Each.{some-ext}
 use Rattle.sums.specs.Sums.{when, bit, Σ-ext}
 use Rattle.sums.specs.Tests.{when-so}
@@ -38,7 +38,7 @@ SameKept n x x′ = (i : ℕ) → i < n → x i ≡ x′ i
 module _ {row row′ : Row} (s : SameIntervals row row′) where
   covers-same : (i j : ℕ) → i < row .count → covers row i j ≡ covers row′ i j
   unfolding covers
-  covers-same i j l = ap₂ (λ (a b : ℕ). leb a j && ltb j b) (s .lo i l) (s .hi i l)
+  covers-same i j l = rw (s .lo i l, s .hi i l)
 
   before-same : (j i : ℕ) → j < row .count → i < row .count → before row j i ≡ before row′ j i
   unfolding before

@@ -10,7 +10,7 @@ use Rattle.lawful.proofs.lawful.Statement.{statement}
 use Rattle.lawful.proofs.lawful.Tie as tie
 
 lay-requires : tie.Need-lay-requires
-lay-requires c κs = (omega arith, laying-none _ _ _ _ refl refl refl refl)
+lay-requires c κs = (omega (arith, c .before .before .before .before .before .pre .1 .0 .few), laying-none _ _ _ _ refl refl refl refl)
 
 returns : tie.Need-returns
 returns c book drawn k = entries-break _ drawn k (c .before .lay .ensures .formed) (not-true _ (c .if1 .taken))
@@ -19,7 +19,7 @@ within-limits-requires : tie.Need-within-limits-requires
 within-limits-requires c κs =
     let laid = c .before .before in
     let start = laid .before .before .before .before .before .before .before in
-    (omega arith, can-sweep (omega arith) (start .pre .1) (laid .before .lay .ensures .laid (not-false _ (laid .if1 .left))) .between)
+    (omega arith, can-sweep (start .pre .1 .0) (start .pre .1 .1) (laid .before .lay .ensures .laid (not-false _ (laid .if1 .left))) .between)
 
 returns-2 : tie.Need-returns-2
 returns-2 c book drawn k =
@@ -32,7 +32,7 @@ channels-apart-requires : tie.Need-channels-apart-requires
 channels-apart-requires c κs =
     let laid = c .before .before .before .before .before .before .before .before in
     let start = laid .before .before .before .before .before .before .before in
-    (omega arith, can-sweep (omega arith) (start .pre .1) (laid .before .lay .ensures .laid (not-false _ (laid .if1 .left))))
+    (omega arith, can-sweep (start .pre .1 .0) (start .pre .1 .1) (laid .before .lay .ensures .laid (not-false _ (laid .if1 .left))))
 
 returns-3 : tie.Need-returns-3
 returns-3 c book drawn k =

@@ -3,7 +3,7 @@ use native.Mathlib.Omega.{arith}
 use borrow.Author.Needs.{needs}
 use borrow.Author.Tests.{not-true, not-false}
 use Rattle.rules.specs.Prices.{verdict}
-use Rattle.lines.specs.HeldLine.{few-spans, few}
+use Rattle.lines.specs.HeldLine.{few-spans}
 use Rattle.lawful.specs.Drawn.{drawn, ends-below}
 use Rattle.verdict.proofs.weigh.Statement.{statement}
 use Rattle.verdict.proofs.weigh.Tie as tie
@@ -11,7 +11,7 @@ use Rattle.verdict.proofs.weigh.Tie as tie
 lawful-requires : tie.Need-lawful-requires
 lawful-requires c κs =
     let w = c .before .before .pre in
-    (omega (arith, few-spans (w .held), few (w .held), w .entries-enough), ends-below (w .held))
+    (omega (arith, few-spans (w .held), w .entries-enough), ends-below (w .held))
 
 returns : tie.Need-returns
 unfolding verdict

@@ -27,7 +27,7 @@ loop-holds c =
 
 -- a channel is a place of the ends
 byte : (c : tie.After-c Inv-loop μ-loop) → at (c .before .before .before .before .args .channel .now) (c .before .before .loop .i) < 256
-byte c = c .before .before .before .before .pre .0 .1 .below _ (omega arith)
+byte c = c .before .before .before .before .pre .0 .1 .held .below _ (omega arith)
 
 returns : tie.Need-returns Inv-loop μ-loop
 returns c =

@@ -6,7 +6,8 @@ use native.Mathlib.Omega.{arith}
 use borrow.Author.Tests.{not-true, not-false}
 use Rattle.sums.specs.Each.{of-yes}
 use Rattle.channels.specs.Lists.{listed-none}
-use Rattle.lawful.specs.Sweep.{Swept, can-list, swept-start, swept-all, clash-not-apart}
+use Rattle.lawful.specs.Spans.{begin-below}
+use Rattle.lawful.specs.Sweep.{Swept, swept-start, swept-all, clash-not-apart}
 use Rattle.lawful.proofs.sweep.channels_apart.Statement.{statement}
 use Rattle.lawful.proofs.sweep.channels_apart.Tie as tie
 
@@ -17,7 +18,7 @@ abbrev μ-loop : tie.MeasureT-loop
 μ-loop spans count lo hi crossing channel first after ends₀ v₀ ends v = spans - v
 
 begin-lists-requires : tie.Need-begin-lists-requires Inv-loop μ-loop
-begin-lists-requires c κs = let can = c .before .before .pre .1 in (can-list can, listed-none (can .between .count-upto))
+begin-lists-requires c κs = let can = c .before .before .pre .1 in (begin-below 128 (omega arith) (can .between), listed-none (can .between .in-line .few))
 
 loop-holds : tie.Need-loop-holds Inv-loop μ-loop
 loop-holds c = (omega arith, swept-start (c .before .before .before .pre .1))

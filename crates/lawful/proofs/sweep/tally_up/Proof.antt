@@ -20,7 +20,7 @@ place c = c .before .before .before .pre .0 .below _ (omega arith)
 add-tally : tie.Need-add-tally Inv-loop μ-loop
 add-tally c =
     let here = c .before in
-    omega (arith, tally-upto (here .before .before .loop .inv .1) _ (place here), here .before .before .before .pre .0 .count-upto)
+    omega (arith, tally-upto (here .before .before .loop .inv .1) _ (place here), here .before .before .before .pre .0 .few)
 
 loop-again : tie.Need-loop-again Inv-loop μ-loop
 loop-again c = (omega arith, tallied-more (c .before .before .before .loop .inv .1) (place (c .before)))

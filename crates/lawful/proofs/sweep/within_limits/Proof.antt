@@ -3,7 +3,8 @@ use mathlib.Core.Path.{_≡_, refl}
 use Prim.Native.Nat.{_-_, _≤_}
 use native.Mathlib.Omega.{arith}
 use Rattle.sums.specs.Each.{of-yes}
-use Rattle.lawful.specs.Loads.{tally-lo, tally-hi, tallied-none, tally-upto, Loaded, loaded-none, load-turns, loaded-more, load-above}
+use Rattle.lawful.specs.Spans.{begin-below}
+use Rattle.lawful.specs.Loads.{tallied-none, tally-upto, Loaded, loaded-none, load-turns, loaded-more, load-above}
 use Rattle.lawful.proofs.sweep.within_limits.Statement.{statement}
 use Rattle.lawful.proofs.sweep.within_limits.Tie as tie
 
@@ -14,10 +15,10 @@ abbrev μ-loop : tie.MeasureT-loop
 μ-loop spans limits count lo hi begins ends load₀ s₀ load s = spans - s
 
 tally-up-requires : tie.Need-tally-up-requires Inv-loop μ-loop
-tally-up-requires c κs = (tally-lo (c .before .pre .1), tallied-none)
+tally-up-requires c κs = (begin-below 64 (omega arith) (c .before .pre .1), tallied-none)
 
 tally-up-requires-2 : tie.Need-tally-up-requires-2 Inv-loop μ-loop
-tally-up-requires-2 c κs = (tally-hi (c .before .before .before .pre .1), tallied-none)
+tally-up-requires-2 c κs = (c .before .before .before .pre .1 .in-line, tallied-none)
 
 loop-holds : tie.Need-loop-holds Inv-loop μ-loop
 loop-holds c = (omega arith, loaded-none _ _ _ _)
@@ -25,7 +26,7 @@ loop-holds c = (omega arith, loaded-none _ _ _ _)
 add-load : tie.Need-add-load Inv-loop μ-loop
 add-load c =
     let begin = c .before .before .before .before .tally-up .ensures in
-    omega (arith, c .before .loop .inv .1 .few, tally-upto begin (c .before .loop .s) (omega arith), c .before .before .before .before .before .before .pre .1 .count-upto)
+    omega (arith, c .before .loop .inv .1 .few, tally-upto begin (c .before .loop .s) (omega arith), c .before .before .before .before .before .before .pre .1 .in-line .few)
 
 sub-load : tie.Need-sub-load Inv-loop μ-loop
 sub-load c =
