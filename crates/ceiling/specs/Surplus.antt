@@ -1,11 +1,10 @@
 -- The pass over the requests: what all of them, kept or not, have above the prices they cross. Each turn adds one term, and the sum stays small.
 -- Assumes nothing.
-use mathlib.Core.Path.{_≡_, refl}
+use mathlib.Core.Path.{_≡_}
 use mathlib.Core.List.{List}
-use Prim.Native.Nat.{ℕ, _+_, _*_, _-_, _≤_, _<_, min, max}
+use Prim.Native.Nat.{ℕ, _+_, _-_, _≤_, _<_, min, max}
 use native.Mathlib.Omega.{arith}
-use Rattle.sums.specs.Sums.{Σ}
-use Rattle.sums.specs.Turns.{Σ-more}
+use Rattle.sums.specs.Turns.{Running, running-none, running-more}
 use Rattle.book.specs.Columns.{at}
 
 -- the tolls between the two ends of request i
@@ -22,18 +21,13 @@ pub record Tallies (count : ℕ) (a b profits toll : List ℕ) : Type 0 where
 
 -- after i requests
 pub record Tallying (i : ℕ) (a b profits toll : List ℕ) (sum : ℕ) : Type 0 where
-  pub sum-is : sum ≡ Σ i (λ j. at profits j - fareAt a b toll j)
-  pub small : sum ≤ 1000000 * i
+  pub gains : Running 1000000 (λ j. at profits j - fareAt a b toll j) i sum
 
 module _ {a b profits toll : List ℕ} where
   pub tallying-none : Tallying 0 a b profits toll 0
-  unfolding Σ
-  tallying-none = record { sum-is = refl; small = omega arith }
+  tallying-none = record { gains = running-none }
 
   pub tallying-more :
       {i sum : ℕ} (gained fare : ℕ) → Tallying i a b profits toll sum → at profits i ≤ 1000000
       → fare ≡ fareAt a b toll i → gained ≡ at profits i - fare → Tallying (i + 1) a b profits toll (sum + gained)
-  tallying-more {i} gained fare was upto ec eg = record {
-    sum-is = omega (arith, was .sum-is, Σ-more i (λ j. at profits j - fareAt a b toll j));
-    small = omega (arith, was .small);
-  }
+  tallying-more gained fare was upto ec eg = record { gains = running-more gained (was .gains) (omega arith) (omega arith) }

@@ -7,7 +7,7 @@ use native.Mathlib.Nat.{mul-le-mul-left, mul-le-mul-right}
 use native.Mathlib.Omega.{arith}
 use lib.ListN.{length, set, length-set}
 use Rattle.sums.specs.Sums.{Σ}
-use Rattle.sums.specs.Turns.{Σ-more}
+use Rattle.sums.specs.Turns.{Running, running-none, running-more}
 use Rattle.sums.specs.Filled.{Filled, filled-none, filled-more}
 use Rattle.book.specs.Columns.{at}
 use Rattle.rules.specs.Prices.{Prices}
@@ -25,11 +25,10 @@ pub record Tolled (spans : ℕ) (limits : List ℕ) (prices : Prices) (toll : Li
 
 -- after s spans
 pub record Tolling (s : ℕ) (limits : List ℕ) (prices : Prices) (toll : List ℕ) (sum rented : ℕ) : Type 0 where
-  pub so-far : Tolled s limits prices toll rented
+  pub tolls : Filled (λ v. Σ v prices) (s + 1) toll
   pub long : length toll ≡ 64
-  pub sum-is : sum ≡ Σ s prices
-  pub sum-small : sum ≤ 1000000 * s
-  pub rent-small : rented ≤ 96000000 * s
+  pub summed : Running 1000000 prices s sum
+  pub rents : Running 96000000 (λ t. at limits t * prices t) s rented
 
 -- what one span adds at most
 pub rent-upto : (l p : ℕ) → l ≤ 96 → p ≤ 1000000 → l * p ≤ 96000000
@@ -39,25 +38,24 @@ module _ {limits : List ℕ} {prices : Prices} where
   pub tolling-none : (toll : List ℕ) → length toll ≡ 64 → Tolling 0 limits prices (set toll 0 0) 0 0
   unfolding Σ
   tolling-none toll long = record {
-    so-far = record { tolls = filled-more 0 (filled-none _ toll) (omega (arith, long)) refl; rent-is = refl };
+    tolls = filled-more 0 (filled-none _ toll) (omega (arith, long)) refl;
     long = simp length-set long;
-    sum-is = refl;
-    sum-small = omega arith;
-    rent-small = omega arith;
+    summed = running-none;
+    rents = running-none;
   }
 
   pub tolling-more :
       {s sum rented : ℕ} {toll : List ℕ} → Tolling s limits prices toll sum rented → s < 63 → at limits s ≤ 96 → prices s ≤ 1000000
       → Tolling (s + 1) limits prices (set toll (s + 1) (sum + prices s)) (sum + prices s) (rented + at limits s * prices s)
-  tolling-more {s} {sum} {rented} was l hl hp =
-      let next : sum + prices s ≡ Σ (s + 1) prices = omega (arith, was .sum-is, Σ-more s prices) in
+  tolling-more {s} {sum} was l hl hp =
+      let next : Running 1000000 prices (s + 1) (sum + prices s) = running-more (prices s) (was .summed) refl hp in
       record {
-        so-far = record {
-          tolls = filled-more (sum + prices s) (was .so-far .tolls) (omega (arith, was .long)) next;
-          rent-is = omega (arith, was .so-far .rent-is, Σ-more s (λ t. at limits t * prices t));
-        };
+        tolls = filled-more (sum + prices s) (was .tolls) (omega (arith, was .long)) (next .sum-is);
         long = simp length-set (was .long);
-        sum-is = next;
-        sum-small = omega (arith, was .sum-small);
-        rent-small = omega (arith, was .rent-small, rent-upto (at limits s) (prices s) hl hp);
+        summed = next;
+        rents = running-more (at limits s * prices s) (was .rents) refl (rent-upto (at limits s) (prices s) hl hp);
       }
+
+  -- past the last span
+  pub tolling-all : {s sum rented : ℕ} {toll : List ℕ} → Tolling s limits prices toll sum rented → Tolled s limits prices toll rented
+  tolling-all done = record { tolls = done .tolls; rent-is = done .rents .sum-is }

@@ -3,12 +3,12 @@
 use mathlib.Core.Path.{_≡_, sym, ap, _∙_}
 use mathlib.Core.Bool.{Bool, _&&_}
 use mathlib.Core.List.{List}
-use Prim.Native.Nat.{ℕ, _≤_, _<_}
+use Prim.Native.Nat.{ℕ, _<_}
 use native.Mathlib.Omega.{arith}
-use lib.Dec.{leb, ltb}
 use lib.ListN.{getD}
 use lib.IntN.{ℤ, pos}
 use Rattle.sums.specs.At.{at}
+use Rattle.sums.specs.Between.{isBetween}
 use Rattle.sums.specs.Sums.{bit, Σ-ext}
 use Rattle.sums.specs.Filled.{Filled}
 use Rattle.sums.specs.Permuted.{Σ-permuted}
@@ -17,11 +17,6 @@ use Rattle.row.specs.Row.{covers}
 use Rattle.flow.specs.Balanced.{loadTo}
 use Rattle.planrow.specs.State.{flag, depth, rowIn, CanPlan, Standing}
 use Rattle.order.specs.Order.{Order}
-
--- each of at most 256 numbers is below count
-pub record Numbers (count : ℕ) (xs : List ℕ) : Type 0 where
-  pub few : count ≤ 256
-  pub below : (i : ℕ) → i < count → at xs i < count
 
 -- the candidates in an order
 pub record Arranged (count : ℕ) (order lo hi : List ℕ) (cost : List ℤ) (los his : List ℕ) (costs : List ℤ) : Type 0 where
@@ -75,7 +70,7 @@ module _
             ∙ Σ-permuted (o .there) (o .back) over
           where
             over : ℕ → ℕ
-            over r = bit (flag kept r && (leb (at lo r) j && ltb j (at hi r)))
+            over r = bit (flag kept r && isBetween (at lo r) (at hi r) j)
 
         standing : {room : List ℕ} {dist : List ℤ} → Standing limit count cells count los his costs keeps room dist → Standing limit count cells count lo hi cost kept room dist
         standing {room} {dist} s =

@@ -1,10 +1,11 @@
 // A line's columns as a row, and the prices of its cells.
 ghost use mathlib.Core.Path.{_≡_};
 ghost use Prim.Native.Nat.{_-_, min};
+ghost use Rattle.sums.specs.At.{NumbersBelow};
 ghost use Rattle.signed.specs.Parts.{dn};
 ghost use Rattle.cells.specs.Steps.{Profits, Candidates, CanSolve, Solves, Falls, prices-of};
 ghost use Rattle.cells.specs.Placing.{CanPrice, Placed};
-ghost use Rattle.cells.specs.Reordered.{Numbers, Arranged, PutBack};
+ghost use Rattle.cells.specs.Reordered.{Arranged, PutBack};
 
 // The lower and the upper end of each request, and its cost: minus its profit.
 fn lay(
@@ -48,7 +49,7 @@ fn arrange(
     his: &mut [usize; 256],
     costs: &mut [i64; 256],
 )
-    requires { ⌜ Numbers count (now order) ⌝ }
+    requires { ⌜ NumbersBelow count count (now order) ⌝ }
     ensures { λ r. ⌜ Arranged count (now (order .entry)) (now (lo .entry)) (now (hi .entry)) (now (cost .entry)) (now (los .exit)) (now (his .exit)) (now (costs .exit)) ⌝ }
 {
     // the whole array, so that its length is known
@@ -67,7 +68,7 @@ fn arrange(
 
 // Which requests are kept, by number: each one as the candidate at its place in the order.
 fn put_back(count: usize, place: &[usize; 256], keeps: &[bool; 256], kept: &mut [bool; 256])
-    requires { ⌜ Numbers count (now place) ⌝ }
+    requires { ⌜ NumbersBelow count count (now place) ⌝ }
     ensures { λ r. ⌜ PutBack count (now (place .entry)) (now (keeps .entry)) (now (kept .exit)) ⌝ }
 {
     // the whole array, so that its length is known

@@ -25,18 +25,18 @@ module _ {book : Book} (on : Ring book) where
     obeys-ring = cut-plan-obeys on (cut book) (cut-in on) plan (there .fair)
 
     -- it earns what its line can
-    pub earns-best : earnings book plan ≡ cutBest book (cut book)
+    pub earns-cut-best : earnings book plan ≡ cutBest book (cut book)
     unfolding cutBest
-    earns-best = sym (cut-earnings on (cut book) plan) ∙ best-is (cut-line on (cut book) (cut-in on)) there
+    earns-cut-best = sym (cut-earnings on (cut book) plan) ∙ best-is (cut-line on (cut book) (cut-in on)) there
 
     -- no plan on the line of any cut earns more
     pub no-cut-earns-more : (j : ℕ) → j < spans book → (other : Plan) → obeys (cutLine book j) other ≡ true → earnings book other ≤ earnings book plan
-    no-cut-earns-more j l other e = omega (arith, earns-best, cut-most j l other e, cut-chosen on .greatest-there j l)
+    no-cut-earns-more j l other e = omega (arith, earns-cut-best, cut-most j l other e, cut-chosen on .greatest-there j l)
 
     -- and every plan on the line of a lower cut earns less
     pub lower-cut-earns-less : (j : ℕ) → j < cut book → (other : Plan) → obeys (cutLine book j) other ≡ true → earnings book other < earnings book plan
-    lower-cut-earns-less j l other e = omega (arith, earns-best, cut-most j (omega (arith, cut-in on)) other e, cut-chosen on .lowest j l)
+    lower-cut-earns-less j l other e = omega (arith, earns-cut-best, cut-most j (omega (arith, cut-in on)) other e, cut-chosen on .lowest j l)
 
   -- the statement leaves one figure of earnings
   pub earnings-once : (plan other : Plan) → Best (cutLine book (cut book)) plan → Best (cutLine book (cut book)) other → earnings book plan ≡ earnings book other
-  earnings-once plan other p q = earns-best plan p ∙ sym (earns-best other q)
+  earnings-once plan other p q = earns-cut-best plan p ∙ sym (earns-cut-best other q)

@@ -29,22 +29,22 @@ unfolding planLine
 ring-plan book e = ap (λ (s : ℕ). cond (eqb s 2) (cutLine book (cut book)) book) e
 
 -- the line on which a plan is made is a line, with the same requests and channels
-record Made (book line : Book) : Type 0 where
+record LineFor (book line : Book) : Type 0 where
   is-line : Line line
   counted : count line ≡ count book
   channelled : line .channels ≡ book .channels
 
-made : (book : Book) → Sound book → Made book (planLine book)
+line-for : (book : Book) → Sound book → LineFor book (planLine book)
 unfolding cutLine
-made book sound = ⊎-elim on-line on-ring (sound .shaped)
+line-for book sound = ⊎-elim on-line on-ring (sound .shaped)
   where
-    on-line : book .shape ≡ 1 → Made book (planLine book)
-    on-line e = subst (Made book) (sym (line-plan book e)) (record { is-line = record { line = e; sound = sound }; counted = refl; channelled = refl })
+    on-line : book .shape ≡ 1 → LineFor book (planLine book)
+    on-line e = subst (LineFor book) (sym (line-plan book e)) (record { is-line = record { line = e; sound = sound }; counted = refl; channelled = refl })
 
-    on-ring : book .shape ≡ 2 → Made book (planLine book)
+    on-ring : book .shape ≡ 2 → LineFor book (planLine book)
     on-ring e =
         let on : Ring book = record { ring = e; sound = sound } in
-        subst (Made book) (sym (ring-plan book e)) (record { is-line = cut-line on (cut book) (cut-in on); counted = cut-count on (cut book); channelled = refl })
+        subst (LineFor book) (sym (ring-plan book e)) (record { is-line = cut-line on (cut book) (cut-in on); counted = cut-count on (cut book); channelled = refl })
 
 -- plans with the same set on the same ways load every span alike
 same-load : (book : Book) (plan other : Plan) → ((i : ℕ) → i < count book → (kept plan i ≡ kept other i) × (way plan i ≡ way other i)) → (s : ℕ) → load book plan s ≡ load book other s
@@ -55,8 +55,8 @@ same-load book plan other same s =
 pub none-left-never : (book : Book) → Sound book → (r : ℕ) → NoneLeft book r → ⊥
 none-left-never book sound r none = omega (arith, m .channelled, none .none-left, channel-found (m .is-line) laid within (none .channels) r (omega (arith, m .counted, none .asked .0)) (none .asked .1))
   where
-    m : Made book (planLine book)
-    m = made book sound
+    m : LineFor book (planLine book)
+    m = line-for book sound
 
     known : (i : ℕ) → i < count (planLine book) → i < count book
     known i l = omega (arith, m .counted)

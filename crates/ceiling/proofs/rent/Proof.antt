@@ -3,7 +3,7 @@ use mathlib.Core.Path.{_≡_}
 use Prim.Native.Nat.{_*_, _-_, _≤_}
 use native.Mathlib.Omega.{arith}
 use Rattle.book.specs.Columns.{at}
-use Rattle.ceiling.specs.Tolls.{Tolling, tolling-none, tolling-more, rent-upto}
+use Rattle.ceiling.specs.Tolls.{Tolling, tolling-none, tolling-more, tolling-all, rent-upto}
 use Rattle.ceiling.proofs.rent.Statement.{statement}
 use Rattle.ceiling.proofs.rent.Tie as tie
 
@@ -44,7 +44,7 @@ returns : tie.Need-returns Inv-loop μ-loop
 returns c =
     let l = c .before .loop in
     let all : l .s ≡ c .before .before .before .before .args .spans = omega arith in
-    rw all at (l .inv .1 .so-far)
+    rw all at (tolling-all (l .inv .1))
 
 pub rent-spec : {M : Type 1} → statement M
 rent-spec =

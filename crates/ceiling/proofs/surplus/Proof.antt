@@ -37,7 +37,7 @@ returns : tie.Need-returns Inv-loop μ-loop
 returns c =
     let l = c .before .loop in
     let all : l .i ≡ c .before .before .args .count = omega arith in
-    rw all at (l .inv .1 .sum-is)
+    rw all at (l .inv .1 .gains .sum-is)
 
 pub surplus-spec : {M : Type 1} → statement M
 surplus-spec =
