@@ -35,20 +35,7 @@ fn fare_of(a: usize, b: usize, toll: &[usize; 64]) -> usize
     requires { ⌜ (a < 64) × (b < 64) × (at (now toll) (min a b) ≤ at (now toll) (max a b)) ⌝ }
     ensures { λ r. ⌜ r ≡ at (now (toll .entry)) (max a b) - at (now (toll .entry)) (min a b) ⌝ }
 {
-    if a < b {
-        return toll[b] - toll[a];
-    }
-    toll[a] - toll[b]
-}
-
-// What a request has above the prices it crosses, or 0.
-fn gain(profit: usize, fare: usize) -> usize
-    ensures { λ r. ⌜ r ≡ profit - fare ⌝ }
-{
-    if profit < fare {
-        return 0;
-    }
-    profit - fare
+    toll[numbers::higher(a, b)] - toll[numbers::lower(a, b)]
 }
 
 // What all requests, kept or not, have above the prices they cross.
@@ -66,7 +53,7 @@ fn surplus(
     let mut i = 0;
     while i < count {
         let fare = fare_of(a[i], b[i], toll);
-        sum += gain(profit[i], fare);
+        sum += numbers::less(profit[i], fare);
         i += 1;
     }
     sum

@@ -26,13 +26,8 @@ fn lay(
     let costs = &cost[..];
     let mut i = 0;
     while i < count {
-        if a[i] < b[i] {
-            lo[i] = a[i];
-            hi[i] = b[i];
-        } else {
-            lo[i] = b[i];
-            hi[i] = a[i];
-        }
+        lo[i] = numbers::lower(a[i], b[i]);
+        hi[i] = numbers::higher(a[i], b[i]);
         cost[i] = -(profit[i] as i64);
         i += 1;
     }

@@ -2,7 +2,7 @@
 // that cross each span, and the channels.
 ghost use mathlib.Core.Path.{_≡_};
 ghost use mathlib.Core.Bool.{not};
-ghost use Prim.Native.Nat.{_+_, _*_, _≤_, min, max};
+ghost use Prim.Native.Nat.{_+_, _*_, _≤_};
 ghost use lib.ListN.{length};
 ghost use lib.Dec.{eqb};
 ghost use Rattle.sums.specs.At.{NumbersBelow};
@@ -14,7 +14,6 @@ ghost use Rattle.rules.specs.Plans.{obeys};
 ghost use Rattle.lawful.specs.Drawn.{Drawn};
 ghost use Rattle.lawful.specs.Entry.{formedAt, LayingPlan, Lays};
 
-mod ends;
 mod sweep;
 
 // Entry i of the lent list: two bytes, high byte first.
@@ -52,23 +51,14 @@ fn formed(channels: usize, a: usize, b: usize, entry: usize) -> bool
     channel <= channels
 }
 
-// The lowest span that a kept request crosses, and the node where it ends; both 0 where it is not kept, so that it crosses none.
-fn from(a: usize, b: usize, entry: usize) -> usize
-    ensures { λ r. ⌜ r ≡ when (not (eqb entry 0)) (min a b) ⌝ }
+// The number of a request that is kept, or 0.
+pub fn where_kept(value: usize, entry: usize) -> usize
+    ensures { λ r. ⌜ r ≡ when (not (eqb entry 0)) value ⌝ }
 {
     if entry == 0 {
         return 0;
     }
-    ends::lower(a, b)
-}
-
-fn upto(a: usize, b: usize, entry: usize) -> usize
-    ensures { λ r. ⌜ r ≡ when (not (eqb entry 0)) (max a b) ⌝ }
-{
-    if entry == 0 {
-        return 0;
-    }
-    ends::upper(a, b)
+    value
 }
 
 // Lays the plan out in columns: for each request where it begins, where it ends, whether it crosses a span at all, and its channel. The answer is whether
@@ -94,8 +84,9 @@ fn lay(
         if !formed(channels, a[i], b[i], entry) {
             return false;
         }
-        let begins = from(a[i], b[i], entry);
-        let ends = upto(a[i], b[i], entry);
+        // one that is not kept begins and ends at node 0, so that it crosses no span
+        let begins = where_kept(numbers::lower(a[i], b[i]), entry);
+        let ends = where_kept(numbers::higher(a[i], b[i]), entry);
         lo[i] = begins;
         hi[i] = ends;
         crossing[i] = begins < ends;

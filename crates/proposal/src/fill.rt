@@ -1,7 +1,6 @@
 // What an order brings by room alone: each request in its turn is kept where every span has room left, and nothing gives way. Of two orders the one that brings
 // more so leaves less to search for. Nothing is promised but safety.
 ghost use Prim.Native.Nat.{_≤_, _<_};
-use crate::guess;
 
 // What request r brings: its profit where it fits, and then it takes its room.
 fn brought(
@@ -70,7 +69,7 @@ pub fn take_better(
     requires { ⌜ (cells < 64) × (count ≤ 256) ⌝ }
 {
     let new = filled(cells, count, limits, lo, hi, profit, other);
-    if new / 7 < guess::less(ceiling, new) {
+    if new / 7 < numbers::less(ceiling, new) {
         return;
     }
     let old = filled(cells, count, limits, lo, hi, profit, order);

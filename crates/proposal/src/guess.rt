@@ -11,14 +11,6 @@ pub struct Guess {
     pub ceiling: usize,
 }
 
-// x less y, and never below 0.
-pub fn less(x: usize, y: usize) -> usize {
-    if x < y {
-        return 0;
-    }
-    x - y
-}
-
 // x and y together, unless one of them is beyond anything that a book gives.
 fn more(x: usize, y: usize) -> usize {
     if 1099511627776 < x {
@@ -61,7 +53,7 @@ fn asked(count: usize, lo: &[usize; 256], hi: &[usize; 256]) -> usize
     let mut sum = 0;
     let mut i = 0;
     while i < count {
-        let length = less(hi[i], lo[i]);
+        let length = numbers::less(hi[i], lo[i]);
         if length < 1000 {
             sum = more(sum, 8 * length);
         }
@@ -104,9 +96,9 @@ fn contested(cells: usize, count: usize, limits: &[usize; 64], length: usize) ->
 
 // What is taken off every profit before it bids: most of the least one, where all are nearly equal.
 fn flat_part(least: usize, greatest: usize) -> usize {
-    let apart = less(greatest, least);
+    let apart = numbers::less(greatest, least);
     if apart < greatest / 8 {
-        return less(least, apart / 16 + 1);
+        return numbers::less(least, apart / 16 + 1);
     }
     0
 }
@@ -116,10 +108,7 @@ fn bid(profit: usize, off: usize) -> usize {
     if 1000000 < profit {
         return 0;
     }
-    if profit < off {
-        return 0;
-    }
-    64 * (profit - off)
+    64 * numbers::less(profit, off)
 }
 
 // What each request bids, and the sum.
@@ -145,7 +134,7 @@ fn fare(a: usize, b: usize, tolls: &[usize; 64]) -> usize {
     if 64 <= b {
         return 0;
     }
-    less(tolls[b], tolls[a])
+    numbers::less(tolls[b], tolls[a])
 }
 
 // One more at a node.
@@ -181,7 +170,7 @@ fn ask(
 
 // The load of a span, from that of the span before: those that end there go, those that begin come.
 fn load_after(load: usize, begin: usize, end: usize) -> usize {
-    less(more(load, begin), end)
+    numbers::less(more(load, begin), end)
 }
 
 // How far a price moves for each request too many: the first step is `unit` for a span that would lose or gain all.
@@ -233,7 +222,7 @@ fn moved(price: usize, load: usize, limit: usize, rate: usize) -> usize {
     if limit < load {
         return more(price, times(load - limit, rate));
     }
-    less(price, times(limit - load, rate))
+    numbers::less(price, times(limit - load, rate))
 }
 
 // The rate of the next round.
@@ -296,7 +285,7 @@ fn settle(
 
 // What a request has above its fare, with a part of the greatest bid added, so that a little below them still counts.
 fn surplus(bid: usize, fare: usize, slack: usize) -> usize {
-    less(more(bid, slack), fare) / 64
+    numbers::less(more(bid, slack), fare) / 64
 }
 
 // The surplus of each request, and the greatest.
@@ -317,9 +306,7 @@ fn surplus_all(
         let paid = fare(lo[i], hi[i], tolls);
         let w = surplus(bids[i], paid, slack);
         worths[i] = w;
-        if top < w {
-            top = w;
-        }
+        top = numbers::higher(top, w);
         i += 1;
     }
     top
@@ -332,7 +319,7 @@ fn due_all(cells: usize, limits: &[usize; 64], tolls: &[usize; 64]) -> usize
     let mut sum = 0;
     let mut j = 0;
     while j < cells {
-        sum = more(sum, times(limits[j], less(tolls[j + 1], tolls[j])));
+        sum = more(sum, times(limits[j], numbers::less(tolls[j + 1], tolls[j])));
         j += 1;
     }
     sum
@@ -352,7 +339,7 @@ fn bid_above(
     let mut i = 0;
     while i < count {
         let paid = fare(lo[i], hi[i], tolls);
-        sum = more(sum, less(bids[i], paid));
+        sum = more(sum, numbers::less(bids[i], paid));
         i += 1;
     }
     sum

@@ -16,12 +16,8 @@ pub fn range(count: usize, list: &[usize]) -> Extremes
     let mut i = 0;
     while i < count {
         let x = list[i];
-        if x < least {
-            least = x;
-        }
-        if greatest < x {
-            greatest = x;
-        }
+        least = numbers::lower(least, x);
+        greatest = numbers::higher(greatest, x);
         i += 1;
     }
     Extremes { least, greatest }
@@ -29,10 +25,7 @@ pub fn range(count: usize, list: &[usize]) -> Extremes
 
 // What every request is given above the least profit, so that a length counts with that one too.
 pub fn lift(least: usize, greatest: usize) -> usize {
-    if greatest < least {
-        return 1;
-    }
-    (greatest - least) / 16 + 1
+    numbers::less(greatest, least) / 16 + 1
 }
 
 // What a request of this length counts for: nearly 64 parts in 64 + length, of 16384, by a curve that needs no division. From 76 on it falls no more.
@@ -79,9 +72,7 @@ pub fn weigh(
     while i < count {
         let w = worth(profit[i], least, lift, lo[i], hi[i]);
         worths[i] = w;
-        if top < w {
-            top = w;
-        }
+        top = numbers::higher(top, w);
         i += 1;
     }
     top

@@ -1,20 +1,11 @@
 // Prices known from the cuts planned so far, one for each span of the ring. Any prices bound what a cut's line can earn; those of another cut do it well.
 ghost use mathlib.Core.Path.{_≡_};
-ghost use Prim.Native.Nat.{_-_, _≤_, _<_, max};
+ghost use Prim.Native.Nat.{_-_, _≤_, _<_};
 ghost use Rattle.sums.specs.Filled.{Filled};
 ghost use Rattle.rules.specs.Best.{best};
 ghost use Rattle.rules.specs.Cuts.{spanAt};
 ghost use Rattle.line.specs.Promise.{LineColumns};
 ghost use Rattle.cells.specs.Placing.{LowPrices};
-
-pub fn higher(x: usize, y: usize) -> usize
-    ensures { λ r. ⌜ r ≡ max x y ⌝ }
-{
-    if x < y {
-        return y;
-    }
-    x
-}
 
 // The span of the ring for each place of the line which cut j leaves.
 fn places(nodes: usize, j: usize, place: &mut [usize; 128])
@@ -40,7 +31,7 @@ fn bridge(nodes: usize, j: usize, known: &mut [usize; 64])
     let all = &known[..];
     let after = known[turn::span_at(nodes, j, 0)];
     let before = known[turn::span_at(nodes, j, nodes - 2)];
-    known[j] = higher(before, after);
+    known[j] = numbers::higher(before, after);
 }
 
 // What the line which cut j leaves can earn, by its own columns. Its prices become the known ones.

@@ -88,7 +88,7 @@ fn raised(
         return top;
     }
     let earned = cut_earnings(j, nodes, count, limits, a, b, profit, known);
-    known::higher(top, earned)
+    numbers::higher(top, earned)
 }
 
 // The lowest-numbered span whose line has the greatest best earnings.

@@ -1,23 +1,14 @@
 -- The earnings of a plan, by its entries and the column of profits: each turn of the loop adds one kept profit, and the sum stays small. Assumes
 -- nothing.
 use mathlib.Core.Path.{_≡_, refl}
-use mathlib.Core.Bool.{not}
 use mathlib.Core.List.{List}
 use Prim.Native.Nat.{ℕ, _+_, _*_, _≤_, _<_}
 use native.Mathlib.Omega.{arith}
 use lib.ListN.{length}
-use lib.Dec.{eqb}
 use Rattle.sums.specs.Sums.{Σ, when, when-le}
 use Rattle.sums.specs.Turns.{Σ-more}
 use Rattle.book.specs.Columns.{at}
 use Rattle.rules.specs.Plans.{Plan, kept}
-
-unfoldable pub keptProfit : ℕ → ℕ → ℕ
-keptProfit profit entry = when (not (eqb entry 0)) profit
-
-pub kept-upto : (profit entry : ℕ) → keptProfit profit entry ≤ profit
-unfolding keptProfit
-kept-upto profit entry = when-le (not (eqb entry 0)) profit
 
 pub record CanEarn (count : ℕ) (profits entries : List ℕ) : Type 0 where
   pub count-upto : count ≤ 256
@@ -35,10 +26,9 @@ module _ {profits : List ℕ} {plan : Plan} where
   earning-none = record { sum-is = refl; small = omega arith }
 
   pub earning-more :
-      {i sum : ℕ} (here : ℕ) → Earning i profits plan sum → at profits i ≤ 1000000 → here ≡ keptProfit (at profits i) (plan i)
+      {i sum : ℕ} (here : ℕ) → Earning i profits plan sum → at profits i ≤ 1000000 → here ≡ when (kept plan i) (at profits i)
       → Earning (i + 1) profits plan (sum + here)
-  unfolding keptProfit kept
   earning-more {i} here was upto e = record {
     sum-is = omega (arith, was .sum-is, Σ-more i (λ j. when (kept plan j) (at profits j)));
-    small = omega (arith, was .small, kept-upto (at profits i) (plan i));
+    small = omega (arith, was .small, when-le (kept plan i) (at profits i));
   }

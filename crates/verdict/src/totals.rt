@@ -6,19 +6,9 @@ ghost use Rattle.book.specs.Bytes.{entryIn, priceIn};
 ghost use Rattle.book.specs.Columns.{at};
 ghost use Rattle.rules.specs.Plans.{kept, earnings};
 ghost use Rattle.rules.specs.Prices.{ceiling};
-ghost use Rattle.verdict.specs.Totals.{CanEarn, keptProfit};
+ghost use Rattle.verdict.specs.Totals.{CanEarn};
 ghost use Rattle.verdict.specs.CanCheck.{CanCheck};
 use crate::places;
-
-// The profit of a request that is kept, or 0.
-fn kept_profit(profit: usize, entry: usize) -> usize
-    ensures { λ r. ⌜ r ≡ keptProfit profit entry ⌝ }
-{
-    if entry == 0 {
-        return 0;
-    }
-    profit
-}
 
 // What the plan earns.
 fn earned(count: usize, profits: &[usize; 256], entries: &[u8]) -> usize
@@ -29,7 +19,7 @@ fn earned(count: usize, profits: &[usize; 256], entries: &[u8]) -> usize
     let mut i = 0;
     while i < count {
         let entry = lawful::entry_at(entries, i);
-        sum += kept_profit(profits[i], entry);
+        sum += lawful::where_kept(profits[i], entry);
         i += 1;
     }
     sum

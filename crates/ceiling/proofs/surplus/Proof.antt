@@ -25,13 +25,13 @@ add-sum : tie.Need-add-sum Inv-loop μ-loop
 add-sum c =
     let pre = c .before .before .before .before .before .before .before .pre in
     let l = c .before .before .before .before .before .before .loop in
-    omega (arith, c .gain .ensures, pre .profit-upto (l .i) (omega arith), pre .count-upto)
+    omega (arith, c .less .ensures, pre .profit-upto (l .i) (omega arith), pre .count-upto)
 
 loop-again : tie.Need-loop-again Inv-loop μ-loop
 loop-again c =
     let pre = c .before .before .before .before .before .before .before .pre in
     let l = c .before .before .before .before .before .before .loop in
-    (omega arith, tallying-more _ _ (l .inv .1) (pre .profit-upto (l .i) (omega arith)) (c .before .before .fare-of .ensures) (c .gain .ensures))
+    (omega arith, tallying-more _ _ (l .inv .1) (pre .profit-upto (l .i) (omega arith)) (c .before .before .fare-of .ensures) (c .less .ensures))
 
 returns : tie.Need-returns Inv-loop μ-loop
 returns c =

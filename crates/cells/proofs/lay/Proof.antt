@@ -1,8 +1,8 @@
 -- Each turn lays one request: the smaller end is the lower one, whichever it is, and its cost is minus its profit. Assumes nothing.
 use mathlib.Core.Path.{_≡_, refl}
-use mathlib.Core.Logic.{⊎-elim}
 use Prim.Native.Nat.{ℕ, _-_, _≤_}
 use native.Mathlib.Omega.{arith}
+use borrow.Author.Needs.{needs}
 use lib.IntN.{pos, _-ℤ_}
 use mir.Facts.{toZ-pos}
 use mir.Syntax.{w64}
@@ -25,10 +25,10 @@ loop-holds c = (omega arith, laying-none _ _ _ _ _ _ (omega arith) (omega arith)
 
 -- the profit of the request that is laid, and its cost
 abbrev gain : tie.After-cost Inv-loop μ-loop → ℕ
-gain c = let l = c .before .before .before .before .before in at (l .before .before .before .before .before .before .before .args .profit .now) (l .loop .i)
+gain c = let l = c .before .before .before .before .before .before .before .before in at (l .before .before .before .before .before .before .before .args .profit .now) (l .loop .i)
 
 gain-upto : (c : tie.After-cost Inv-loop μ-loop) → gain c ≤ 1000000
-gain-upto c = let l = c .before .before .before .before .before in l .before .before .before .before .before .before .before .pre .upto (l .loop .i) (omega arith)
+gain-upto c = let l = c .before .before .before .before .before .before .before .before in l .before .before .before .before .before .before .before .pre .upto (l .loop .i) (omega arith)
 
 paid : (c : tie.After-cost Inv-loop μ-loop) → ReadsAs (pos 0 -ℤ toZ w64 (gain c)) (pos 0 -ℤ pos (gain c))
 paid c =
@@ -43,12 +43,9 @@ sub-cost c = paid c .fits
 
 loop-again : tie.Need-loop-again Inv-loop μ-loop
 loop-again c =
-    let l = c .before .before .before .before .before .loop in
+    let l = c .before .before .before .before .before .before .before .before .loop in
     let z = neg (pos (gain c)) in
-    ⊎-elim
-    (λ w. rw (w .3, w .4, paid c .again) (omega arith, laying-more _ (l .inv .1) (omega arith) (omega (arith, w .0 .taken)) (omega (arith, w .0 .taken)) (z .rise) (z .fall)))
-    (λ w. rw (w .3, w .4, paid c .again) (omega arith, laying-more _ (l .inv .1) (omega arith) (omega (arith, w .0 .left)) (omega (arith, w .0 .left)) (z .rise) (z .fall)))
-    (c .before .if1 .came)
+    rw (paid c .again) (omega arith, laying-more _ (l .inv .1) (omega arith) (c .before .before .before .before .lower .ensures) (c .before .higher .ensures) (z .rise) (z .fall))
 
 returns : tie.Need-returns Inv-loop μ-loop
 returns c =
@@ -67,20 +64,14 @@ lay-spec =
     (λ c. omega arith)
     (λ c. omega arith)
     (λ c. omega arith)
+    (λ c κs. search needs)
     (λ c. omega arith)
     (λ c. omega arith)
     (λ c. omega arith)
     (λ c. omega arith)
     (λ c. omega arith)
     (λ c. omega arith)
-    (λ c. omega arith)
-    (λ c. omega arith)
-    (λ c. omega arith)
-    (λ c. omega arith)
-    (λ c. omega arith)
-    (λ c. omega arith)
-    (λ c. omega arith)
-    (λ c. omega arith)
+    (λ c κs. search needs)
     (λ c. omega arith)
     (λ c. omega arith)
     (λ c. omega arith)

@@ -32,13 +32,21 @@ returns c =
 loop-again : tie.Need-loop-again Inv-loop μ-loop
 unfolding kept Plans.channel
 loop-again c =
-    let from = c .before .before .before in
-    let form = from .before .before .before in
+    let begins = c .before .before .before .before in
+    let form = begins .before .before .before .before in
     let read = form .before .before .before .before in
     let l = read .before .before .loop in (
       omega arith,
       below-more _ _ (l .inv .1) (sym (rw (read .entry-at .ensures) at (form .before .formed .ensures)) ∙ not-false _ (form .if1 .left)),
-      laying-more _ _ _ (l .inv .2) (omega arith) (rw (read .entry-at .ensures) at (from .from .ensures)) (rw (read .entry-at .ensures) at (c .upto .ensures)) (rw (read .entry-at .ensures)),
+      laying-more
+          _
+          _
+          _
+          (l .inv .2)
+          (omega arith)
+          (rw (read .entry-at .ensures, begins .before .lower .ensures) at (begins .where-kept .ensures))
+          (rw (read .entry-at .ensures, c .before .higher .ensures) at (c .where-kept2 .ensures))
+          (rw (read .entry-at .ensures)),
     )
 
 returns-2 : tie.Need-returns-2 Inv-loop μ-loop
@@ -66,10 +74,12 @@ lay-spec =
     (λ c. omega arith)
     (λ c. omega arith)
     (λ c κs. search needs)
+    (λ c κs. search needs)
     (λ c. omega arith)
     (λ c. omega arith)
     (λ c. omega arith)
     (λ c. omega arith)
+    (λ c κs. search needs)
     (λ c κs. search needs)
     (λ c. omega arith)
     (λ c. omega arith)

@@ -27,6 +27,7 @@ weigh-spec =
     (λ c κs. search needs)
     (λ c. omega arith)
     (λ c. omega arith)
+    (λ c κs. search needs)
     (λ c. omega arith)
     (λ c. omega arith)
     (λ c. omega arith)

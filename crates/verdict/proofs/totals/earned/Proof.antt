@@ -1,11 +1,15 @@
 -- `verdict::totals::earned` meets its contract: each turn adds one kept profit. Assumes nothing.
 use mathlib.Core.Path.{_≡_}
+use mathlib.Core.Bool.{not}
 use Prim.Native.Nat.{_-_, _≤_}
 use native.Mathlib.Omega.{arith}
 use borrow.Author.Needs.{needs}
+use lib.Dec.{eqb}
+use Rattle.sums.specs.Sums.{when-le}
 use Rattle.book.specs.Bytes.{entryIn}
 use Rattle.book.specs.Columns.{at}
-use Rattle.verdict.specs.Totals.{kept-upto, Earning, earning-none, earning-more}
+use Rattle.rules.specs.Plans.{kept}
+use Rattle.verdict.specs.Totals.{Earning, earning-none, earning-more}
 use Rattle.verdict.proofs.totals.earned.Statement.{statement}
 use Rattle.verdict.proofs.totals.earned.Tie as tie
 
@@ -24,17 +28,18 @@ add-sum c =
     let i = c .before .before .before .before .loop .i in
     omega (
       arith,
-      c .kept-profit .ensures,
-      kept-upto (at (start .args .profits .now) i) (c .before .before .entry-at .result),
+      c .where-kept .ensures,
+      when-le (not (eqb (c .before .before .entry-at .result) 0)) (at (start .args .profits .now) i),
       start .pre .profit-upto i (omega arith),
       start .pre .count-upto,
     )
 
 loop-again : tie.Need-loop-again Inv-loop μ-loop
+unfolding kept
 loop-again c =
     let start = c .before .before .before .before .before .before in
     let l = c .before .before .before .before .loop in
-    (omega arith, earning-more _ (l .inv .1) (start .pre .profit-upto (l .i) (omega arith)) (rw (c .before .before .entry-at .ensures) at (c .kept-profit .ensures)))
+    (omega arith, earning-more _ (l .inv .1) (start .pre .profit-upto (l .i) (omega arith)) (rw (c .before .before .entry-at .ensures) at (c .where-kept .ensures)))
 
 returns : tie.Need-returns Inv-loop μ-loop
 returns c =
