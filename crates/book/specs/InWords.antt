@@ -1,4 +1,4 @@
--- Rows 1 to 11 of 01's table "Refusals by number", each in its own words: row n is broken at record r exactly when its sentence is true there.
+-- Rows 1 to 12 of 01's table "Refusals by number", each in its own words: row n is broken at record r exactly when its sentence is true there.
 -- A row is a test put together from comparisons, so its law is put together alike from what each comparison means; the refusals of a span left
 -- out, not marked or with a limit above k then follow from the law of when a refusal is given. Assumes nothing.
 use mathlib.Core.Path.{_≡_, refl}
@@ -10,9 +10,10 @@ use native.Mathlib.Omega.{arith}
 use borrow.Author.Count.{below-more}
 use lib.ListN.{length}
 use lib.Dec.{ltb, eqb}
+use Rattle.sums.specs.Each.{not-above}
 use Rattle.book.specs.Bytes.{byte, blank}
 use Rattle.book.specs.Book.{Book}
-use Rattle.book.specs.Refusals.{start, records, present, kindIn, markIn, numberIn, shapeIn, nodesIn, channelsIn, spansIn, limitIn, aIn, bIn, profitIn, known, fewest, countWrong, networkWrong, nodesWrong, channelsWrong, spanWrong, markWrong, limitWrong, tooMany, requestWrong, endsWrong, profitWrong, rows, broken}
+use Rattle.book.specs.Refusals.{start, records, present, kindIn, markIn, numberIn, shapeIn, nodesIn, channelsIn, spansIn, limitIn, aIn, bIn, profitIn, known, fewest, countWrong, networkWrong, nodesWrong, channelsWrong, spanWrong, markWrong, limitWrong, tooMany, requestWrong, endsWrong, profitWrong, rows, broken, shortOf}
 use Rattle.book.specs.Reading.{done, refused, due, reading}
 use Rattle.book.specs.Laws.{Given, span-looked-at, refused-given, given-refused, broken-unread}
 use Rattle.book.specs.Means.{less, at-most, same, not-less, not-so, is-not, and, or, or₃, or₄, to-the-right, not-each, and₃}
@@ -135,6 +136,23 @@ Row11 f r = (spansIn f < r) × ((profitIn f r ≡ 0) ⊎ (1000000 < profitIn f r
 pub row-11 : (f : List ℕ) (r : ℕ) → broken f r 11 ≡ true ↔ Row11 f r
 unfolding rows profitWrong
 row-11 f r = and after (or same less)
+
+-- ---- the lists beside the file
+
+-- 12: the entry list is shorter than m, or on a line the price list shorter than n − 1
+pub row-12 :
+    (shape spans count entryRoom priceRoom : ℕ) → shortOf shape spans count entryRoom priceRoom ≡ true ↔ (entryRoom < count) ⊎ ((shape ≡ 1) × (priceRoom < spans))
+unfolding shortOf
+row-12 shape spans count entryRoom priceRoom = or less (and same less)
+
+-- it is not given exactly when both are long enough
+pub long-lists :
+    {shape spans count entryRoom priceRoom : ℕ}
+    → shortOf shape spans count entryRoom priceRoom ≡ false ↔ (count ≤ entryRoom) × (shape ≡ 1 → spans ≤ priceRoom)
+long-lists = Iff·trans (not-so (row-12 _ _ _ _ _)) (
+  λ long. (not-above (λ h. long (inl h)), λ line. not-above (λ h. long (inr (line, h)))),
+  λ enough. ⊎-elim (λ h. omega (arith, enough .0)) (λ w. omega (arith, w .1, enough .1 (w .0))),
+)
 
 -- ---- "A span left out, a limit not marked as read on site, or one above the channel count, is refused" (demand 1)
 

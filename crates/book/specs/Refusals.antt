@@ -1,4 +1,4 @@
--- Refusals 1 to 11: for each row of 01's table "Refusals by number", when it is given for record r of a file f.
+-- Refusals 1 to 11: for each row of 01's table "Refusals by number", when it is given for record r of a file f. Then 12, which is of the lists beside the file.
 -- A record is 16 bytes (01, "Order book records"); record 0 is the network, then the spans, then the requests. Assumes nothing.
 use mathlib.Core.Bool.{Bool, false, not, _&&_, _||_, cond}
 use mathlib.Core.List.{List, [], _∷_}
@@ -155,3 +155,9 @@ faulty f r = ltb (fault f r) 12
 -- the place that a refusal of record r carries
 abbrev pub place : List ℕ → ℕ → ℕ
 place f r = r
+
+-- ---- after the book
+
+-- 12: the entry list is shorter than m, or on a line the price list shorter than n − 1; lists are measured in whole places
+unfoldable pub shortOf : (shape spans count entryRoom priceRoom : ℕ) → Bool
+shortOf shape spans count entryRoom priceRoom = ltb entryRoom count || (eqb shape 1 && ltb priceRoom spans)

@@ -2,7 +2,7 @@
 -- are at most 256 profits of 1,000,000. Assumes nothing.
 use mathlib.Core.Bool.{Bool, true, false, cond}
 use mathlib.Core.List.{List}
-use mathlib.Core.Logic.{inl, inr, ⊎-elim}
+use mathlib.Core.Logic.{inr, ⊎-elim}
 use mathlib.Core.Path.{_≡_, refl, sym}
 use Prim.Native.Nat.{ℕ, _≤_}
 use native.Mathlib.Omega.{arith}
@@ -16,8 +16,8 @@ use Rattle.book.specs.Bytes.{entryIn, priceIn}
 use Rattle.book.specs.Sound.{Sound, sound, spans-small, few-spans}
 use Rattle.book.specs.Refusals.{records, spansIn, nodesIn, shapeIn}
 use Rattle.book.specs.Reading.{Outcome, done, refused, andThen, due, reading, refused-not-done}
-use Rattle.book.specs.Means.{less, same, not-so, and, or}
-use Rattle.book.specs.InWords.{row-1, row-3}
+use Rattle.book.specs.Means.{not-so}
+use Rattle.book.specs.InWords.{row-1, row-3, long-lists}
 use Rattle.book.specs.Laws.{Given, refused-given}
 use Rattle.rules.specs.Plans.{Plan, kept, earnings, numberKept}
 use Rattle.rules.specs.Cuts.{cutShown}
@@ -82,11 +82,8 @@ pub record LongEnough (book : Book) (entryPlaces pricePlaces : ℕ) : Type 0 whe
 not-short : (book : Book) (entryPlaces pricePlaces : ℕ) → placesShort book entryPlaces pricePlaces ≡ false → LongEnough book entryPlaces pricePlaces
 unfolding placesShort
 not-short book entryPlaces pricePlaces e =
-    let ok = not-so (or less (and same less)) .0 e in
-    record {
-      entries = not-above (λ h. ok (inl h));
-      prices = λ l. not-above (λ h. ok (inr (l, h)));
-    }
+    let long = long-lists .0 e in
+    record { entries = long .0; prices = long .1 }
 
 pub long-enough : (file : List ℕ) (entryPlaces pricePlaces : ℕ) (book : Book) → plannableIn file entryPlaces pricePlaces ≡ done book → LongEnough book entryPlaces pricePlaces
 long-enough file entryPlaces pricePlaces book is = not-short book entryPlaces pricePlaces (plannable-read file entryPlaces pricePlaces book is .1)

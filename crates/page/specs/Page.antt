@@ -1,17 +1,17 @@
 -- What the printing program writes: the text of the reading's refusal, or of a plan that the planner hands back. Lists of 256 and 64 places are long enough
 -- for every book, so 12 is never printed. Assumes nothing.
-use mathlib.Core.Bool.{Bool, false, cond, and-false}
+use mathlib.Core.Bool.{Bool, false, cond}
 use mathlib.Core.List.{List}
 use mathlib.Core.Path.{_≡_, refl, sym, ap, _∙_}
 use Prim.Native.Nat.{ℕ, _≤_}
 use native.Mathlib.Omega.{arith}
-use borrow.Author.Tests.{le-ltb}
 use lib.ListN.{length, take, drop, length-take}
 use Rattle.sums.specs.Table.{table}
 use Rattle.book.specs.Book as Books
-use Rattle.book.specs.Book.{Book, isLine, spans, profit}
+use Rattle.book.specs.Book.{Book, profit}
 use Rattle.book.specs.Columns.{at}
 use Rattle.book.specs.Reading.{Outcome, done, refused, andThen, reading, refused-not-done}
+use Rattle.book.specs.InWords.{long-lists}
 use Rattle.book.specs.Sound.{Sound, sound, few-spans}
 use Rattle.rules.specs.Plans.{Plan}
 use Rattle.rules.specs.Operations as O
@@ -47,7 +47,7 @@ pub record Paged (file before out : List ℕ) (r : ℕ) : Type 0 where
 
 never-short : (book : Book) → Sound book → placesShort book 256 64 ≡ false
 unfolding placesShort
-never-short book s = rw (le-ltb 256 (Books.count book) (s .count-upto), le-ltb 64 (spans book) (few-spans s)) (and-false (isLine book))
+never-short book s = long-lists .1 (s .count-upto, λ line. few-spans s)
 
 plannable-is : (file : List ℕ) → plannableIn file 256 64 ≡ reading file
 unfolding plannableIn andThen

@@ -1,16 +1,16 @@
 -- The planner on an accepted book. 12 comes first; then a line's plan is the line planner's and a ring's is the ring planner's, and each is a plan as the
 -- operations have it. Assumes nothing.
-use mathlib.Core.Bool.{Bool, true, false, _&&_, _||_}
+use mathlib.Core.Bool.{Bool, true, false}
 use mathlib.Core.List.{List}
 use mathlib.Core.Logic.{⊎-elim}
 use mathlib.Core.Path.{_≡_, refl, sym, subst, _∙_}
 use Prim.Native.Nat.{ℕ}
 use native.Mathlib.Omega.{arith}
-use lib.Dec.{eqb, ltb}
 use lib.ListN.{replicate}
 use Rattle.sums.specs.Each.{of-yes, decided}
 use Rattle.sums.specs.Vacant.{Vacant}
 use Rattle.book.specs.Book.{Book, spans, spansOf, count}
+use Rattle.book.specs.Refusals.{shortOf}
 use Rattle.book.specs.Columns.{at}
 use Rattle.book.specs.Reading.{done, refused, andThen, refused-not-done}
 use Rattle.rules.specs.Cuts.{cut, cutShown}
@@ -177,7 +177,7 @@ module _ {net : Network} {n : ℕ} {limits a b profits : List ℕ} (held : HeldB
 -- the test of 12 on the numbers that hold the book
 pub short-is :
     {net : Network} {n spansN : ℕ} {limits a b profits : List ℕ} {t : Bool} (entryPlaces pricePlaces : ℕ) (held : HeldBook net n limits a b profits) → spansN ≡ spansOf (net .shape) (net .nodes)
-    → t ≡ (ltb entryPlaces n || (eqb (net .shape) 1 && ltb pricePlaces spansN)) → placesShort (held .book) entryPlaces pricePlaces ≡ t
+    → t ≡ shortOf (net .shape) spansN n entryPlaces pricePlaces → placesShort (held .book) entryPlaces pricePlaces ≡ t
 unfolding placesShort spans count
 short-is entryPlaces pricePlaces held s e = rw (held .shape-is, held .nodes-is, ← held .holds .counted, e, s)
 

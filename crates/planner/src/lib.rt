@@ -1,8 +1,6 @@
 // The planner of document 01 on any file: reads the book, plans its line or its ring, and answers with numbers. It writes nowhere: what is handed to the
 // desk's lists or printed is made from its answer.
 ghost use mathlib.Core.Path.{_≡_};
-ghost use mathlib.Core.Bool.{_&&_, _||_};
-ghost use lib.Dec.{eqb, ltb};
 ghost use Rattle.reader.specs.Says.{bookFrom};
 ghost use Rattle.columns.specs.Seam.{HeldBook, LentBook};
 ghost use Rattle.planner.specs.Promise.{answered, Refusing, PlanOf, BookPlanned};
@@ -69,19 +67,6 @@ fn answer_of(solved: Solved, cut: usize) -> Answer
     }
 }
 
-// 12: a list lent for the entries, or on a line for the prices, has too few places.
-fn short(shape: usize, spans: usize, count: usize, entry_places: usize, price_places: usize) -> bool
-    ensures { λ r. ⌜ r ≡ (ltb «entry_places» count || (eqb shape 1 && ltb «price_places» spans)) ⌝ }
-{
-    if entry_places < count {
-        return true;
-    }
-    if shape == 1 {
-        return price_places < spans;
-    }
-    false
-}
-
 // What the planner of a line or of a ring finds: the answer, an entry for each request and, on a line, a price for each span.
 struct Found {
     answer: Answer,
@@ -136,7 +121,7 @@ fn plan_held(
     ensures { λ r. ⌜ ((held : HeldBook net count limits (cols .a) (cols .b) (cols .profit)) → HeldPlanned (held .book) «entry_places» «price_places» r) ⌝ }
 {
     let spans = records::shapes::spans_of(net.shape, net.nodes);
-    if short(net.shape, spans, count, entry_places, price_places) {
+    if records::shapes::short(net.shape, spans, count, entry_places, price_places) {
         return refuse(Refusal {
             number: 12,
             place: 0,

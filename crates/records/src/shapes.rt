@@ -1,4 +1,4 @@
-// The shapes of a network (document 01, "What the desk plans"): 1 is a line, 2 a ring.
+// The shapes of a network (document 01, "What the desk plans"): 1 is a line, 2 a ring; and what a shape asks for.
 ghost use mathlib.Core.Path.{_≡_};
 ghost use Rattle.book.specs.Book.{spansOf};
 ghost use Rattle.book.specs.Refusals as R;
@@ -27,8 +27,24 @@ pub fn spans_of(shape: usize, nodes: usize) -> usize
     if shape == 2 {
         return nodes;
     }
-    if nodes == 0 {
-        return 0;
+    numbers::less(nodes, 1)
+}
+
+// Whether a list lent for the entries, or on a line for the prices, has too few places (refusal 12).
+pub fn short(
+    shape: usize,
+    spans: usize,
+    count: usize,
+    entry_places: usize,
+    price_places: usize,
+) -> bool
+    ensures { λ r. ⌜ r ≡ R.shortOf shape spans count «entry_places» «price_places» ⌝ }
+{
+    if entry_places < count {
+        return true;
     }
-    nodes - 1
+    if shape == 1 {
+        return price_places < spans;
+    }
+    false
 }

@@ -11,7 +11,7 @@ use Rattle.sums.specs.Table.{table}
 use Rattle.sums.specs.Lowest.{lowestFree}
 use Rattle.book.specs.Bytes.{two, four, blank, entryPlaces, pricePlaces, entryIn, priceIn}
 use Rattle.book.specs.Book.{Book, spansOf, spans, limit, count, endA, endB, profit}
-use Rattle.book.specs.Refusals.{start, records, present, kindIn, markIn, numberIn, shapeIn, nodesIn, channelsIn, spansIn, limitIn, aIn, bIn, profitIn, known, fewest, countWrong, networkWrong, nodesWrong, channelsWrong, spanWrong, markWrong, limitWrong, tooMany, requestWrong, endsWrong, profitWrong, rows, fault}
+use Rattle.book.specs.Refusals.{start, records, present, kindIn, markIn, numberIn, shapeIn, nodesIn, channelsIn, spansIn, limitIn, aIn, bIn, profitIn, known, fewest, countWrong, networkWrong, nodesWrong, channelsWrong, spanWrong, markWrong, limitWrong, tooMany, requestWrong, endsWrong, profitWrong, rows, fault, shortOf}
 use Rattle.book.specs.Reading.{Outcome, done, refused, andThen, due, requestOf, bookOf, faultyRecord, reading}
 use Rattle.rules.specs.Ways.{upward, crosses, wayExists, wayFrom, lineWay, crossed}
 use Rattle.rules.specs.Plans.{Plan, kept, way, channel, earnings, over, load, share, formed, apart, obeys}
@@ -226,5 +226,5 @@ figures =
     ∷ []
 
 pub figures-right : Right figures
-unfolding each some seek Σ table two four blank entryPlaces pricePlaces entryIn priceIn spansOf spans limit count endA endB profit start records present kindIn markIn numberIn shapeIn nodesIn channelsIn spansIn limitIn aIn bIn profitIn known fewest countWrong networkWrong nodesWrong channelsWrong spanWrong markWrong limitWrong tooMany requestWrong endsWrong profitWrong rows fault andThen due requestOf bookOf faultyRecord reading upward crosses wayExists wayFrom lineWay crossed kept way channel earnings over load share formed apart obeys lowerEnd earlier lowestFree heldBefore byRule fits lowered bestWithin best steps spanAt moved cutLine cutBest cut planLine cutShown priceOf ceiling verdict placesShort tooShort tooDear checking checker asked Right
+unfolding each some seek Σ table two four blank entryPlaces pricePlaces entryIn priceIn spansOf spans limit count endA endB profit start records present kindIn markIn numberIn shapeIn nodesIn channelsIn spansIn limitIn aIn bIn profitIn known fewest countWrong networkWrong nodesWrong channelsWrong spanWrong markWrong limitWrong tooMany requestWrong endsWrong profitWrong rows fault andThen due requestOf bookOf faultyRecord reading upward crosses wayExists wayFrom lineWay crossed kept way channel earnings over load share formed apart obeys lowerEnd earlier lowestFree heldBefore byRule fits lowered bestWithin best steps spanAt moved cutLine cutBest cut planLine cutShown priceOf ceiling verdict shortOf placesShort tooShort tooDear checking checker asked Right
 figures-right = (refl, (refl, (refl, (refl, (refl, (refl, (refl, (refl, (refl, (refl, (refl, (refl, (refl, (refl, (refl, (refl, (refl, (refl, (refl, (refl, (refl, (refl, (refl, (refl, (refl, (refl, (refl, (refl, (refl, (refl, (refl, tt)))))))))))))))))))))))))))))))

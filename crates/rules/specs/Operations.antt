@@ -1,22 +1,23 @@
 -- The operations of 01 and the order of their refusals ("Refusals by number": after the book 14, then 12, then 13, and 15 last).
 -- Assumes nothing.
-use mathlib.Core.Bool.{Bool, true, _&&_, _||_, cond}
+use mathlib.Core.Bool.{Bool, true, cond}
 use mathlib.Core.List.{List}
 use mathlib.Core.Path.{_≡_}
 use Prim.Native.Nat.{ℕ, _≤_, _<_}
 use lib.Dec.{ltb}
 use Rattle.sums.specs.Each.{first}
 use Rattle.book.specs.Bytes.{entryPlaces, pricePlaces, entryIn, priceIn}
-use Rattle.book.specs.Book.{Book, isLine, isRing, spans, count}
+use Rattle.book.specs.Book.{Book, isRing, spans, count}
+use Rattle.book.specs.Refusals.{shortOf}
 use Rattle.book.specs.Reading.{Outcome, done, refused, andThen, reading}
 use Rattle.rules.specs.Plans.{Plan, kept, way, channel, Best, earnings, numberKept, obeys}
 use Rattle.rules.specs.Channels.{earlier, byRule}
 use Rattle.rules.specs.Cuts.{planLine, cutShown}
 use Rattle.rules.specs.Prices.{Prices, verdict}
 
--- 12: the entry list is shorter than m, or on a line the price list shorter than n − 1; lists are measured in whole places
+-- 12: a list has too few places for this book
 unfoldable pub placesShort : Book → ℕ → ℕ → Bool
-placesShort book entryRoom priceRoom = ltb entryRoom (count book) || (isLine book && ltb priceRoom (spans book))
+placesShort book entryRoom priceRoom = shortOf (book .shape) (spans book) (count book) entryRoom priceRoom
 
 unfoldable pub tooShort : Book → List ℕ → List ℕ → Bool
 tooShort book entries prices = placesShort book (entryPlaces entries) (pricePlaces prices)

@@ -5,17 +5,16 @@ use mathlib.Core.Bool.{Bool, true, false}
 use mathlib.Core.List.{List}
 use mathlib.Core.Logic.{⊎-elim}
 use Prim.Native.Nat.{ℕ, _≤_, _<_}
-use borrow.Author.Tests.{eq-eqb, ltb-false, le-ltb}
-use lib.Dec.{ltb}
+use borrow.Author.Tests.{eq-eqb}
 use Rattle.sums.specs.Each.{both, decided, less-or-not}
-use Rattle.sums.specs.Tests.{neither}
 use Rattle.book.specs.Bytes.{entryPlaces, pricePlaces, entryIn, priceIn}
 use Rattle.book.specs.Book.{Book, spans, count}
 use Rattle.book.specs.Reading.{Outcome, done, refused, reading, refused-not-done}
+use Rattle.book.specs.InWords.{long-lists}
 use Rattle.book.specs.Sound.{sound}
 use Rattle.rules.specs.Plans.{Best, earnings, obeys}
 use Rattle.rules.specs.Prices.{verdict, ceiling}
-use Rattle.rules.specs.Operations.{tooShort, tooDear, checking, checker}
+use Rattle.rules.specs.Operations.{placesShort, tooShort, tooDear, checking, checker}
 use Rattle.lines.specs.Line.{Line}
 use Rattle.lines.specs.Ceiling.{yes-obeys, yes-earns, yes-best, yes-for-best, no-for-others}
 use Rattle.verdict.specs.declared.Checked.{Checked}
@@ -43,7 +42,8 @@ module _ {file entries prices : List ℕ} (j : Judged file entries prices) where
   on-line = record { line = j .line; sound = sound file (j .book) (j .read) }
 
   long : tooShort (j .book) entries prices ≡ false
-  long = W.measured on-line entries prices ∙ rw (le-ltb _ _ (j .entries-enough), le-ltb _ _ (j .prices-enough))
+  unfolding tooShort placesShort
+  long = long-lists .1 (j .entries-enough, λ line. j .prices-enough)
 
   pub is-verdict : done (verdict (j .book) (entryIn entries) (priceIn prices)) ≡ checker file entries prices
   is-verdict =
@@ -53,6 +53,7 @@ module _ {file entries prices : List ℕ} (j : Judged file entries prices) where
 -- where the checker says yes or no, there is something to judge: every other way out is a refusal
 module _ (file entries prices : List ℕ) {t : Bool} (said : checker file entries prices ≡ done t) where
   judged-line : (book : Book) → reading file ≡ done book → book .shape ≡ 1 → Judged file entries prices
+  unfolding tooShort placesShort
   judged-line book read line =
       ⊎-elim (λ e. absurd (refused-not-done (from (W.short-refused on entries prices e) ∙ said)))
       (λ e. ⊎-elim (λ l. absurd (refused-not-done (from (W.dear-refused on entries prices e l) ∙ said))) (judged e) (less-or-not _ _))
@@ -66,13 +67,12 @@ module _ (file entries prices : List ℕ) {t : Bool} (said : checker file entrie
 
       judged : tooShort book entries prices ≡ false → spans book ≤ tooDear book (priceIn prices) → Judged file entries prices
       judged e none =
-          let reach = neither (ltb (entryPlaces entries) (count book)) _ (sym (W.measured on entries prices) ∙ e) in
           record {
             book = book;
             read = read;
             line = line;
-            entries-enough = ltb-false _ _ (reach .0);
-            prices-enough = ltb-false _ _ (reach .1);
+            entries-enough = long-lists .0 e .0;
+            prices-enough = long-lists .0 e .1 line;
             price-upto = W.all-low book prices none;
           }
 

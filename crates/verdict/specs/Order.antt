@@ -1,21 +1,21 @@
 -- An accepted book on the checker's table: what its numbers say is what the ways out ask. A book that is no ring is a line, and its spans are its
 -- nodes less one; where the lists are long enough and no price is too high, everything stands that yes or no is said of. Assumes nothing.
 use mathlib.Core.Path.{_≡_, sym, ap, _∙_}
-use mathlib.Core.Bool.{Bool, true, false, _||_}
+use mathlib.Core.Bool.{Bool, true, false}
 use mathlib.Core.List.{List}
 use mathlib.Core.Logic.{⊎-elim}
 use Prim.Native.Nat.{ℕ, _/_, _-_, _≤_, _<_}
 use native.Mathlib.Omega.{arith}
-use borrow.Author.Tests.{ltb-false}
 use lib.ListN.{length}
 use lib.Dec.{ltb}
 use Rattle.sums.specs.Each.{first}
-use Rattle.sums.specs.Tests.{neither}
 use Rattle.book.specs.Bytes.{entryPlaces, pricePlaces, entryIn, priceIn}
 use Rattle.book.specs.Book.{spans}
+use Rattle.book.specs.Refusals.{shortOf}
+use Rattle.book.specs.InWords.{long-lists}
 use Rattle.book.specs.Reading.{done, refused}
 use Rattle.rules.specs.Prices.{verdict}
-use Rattle.rules.specs.Operations.{tooShort, tooDear, checking}
+use Rattle.rules.specs.Operations.{placesShort, tooShort, tooDear, checking}
 use Rattle.lines.specs.Line.{Line}
 use Rattle.lines.specs.HeldLine.{HeldLine, line-held}
 use Rattle.records.specs.declared.Network.{Network}
@@ -43,21 +43,20 @@ module _
       spans-are = sym (on-line .spans-is)
 
       -- the lists, measured in whole places
-      module _ (lacks : Bool) (measured : lacks ≡ (ltb (entryPlaces entries) held || ltb (pricePlaces prices) (network .nodes - 1))) where
+      module _ (lacks : Bool) (measured : lacks ≡ shortOf (network .shape) (network .nodes - 1) held (length entries / 2) (length prices / 4)) where
         short : tooShort (h .book) entries prices ≡ lacks
-        short = rw (W.measured line entries prices, ← h .holds .counted, spans-are) (sym measured)
+        unfolding tooShort placesShort entryPlaces pricePlaces
+        short = rw (spans-are, ← h .holds .counted, h .shape-is) (sym measured)
 
         pub short-refused : lacks ≡ true → refused 12 0 ≡ checking (h .book) entries prices
         short-refused e = W.short-refused line entries prices (short ∙ e)
 
         module _ (long : lacks ≡ false) where
           entries-reach : held ≤ length entries / 2
-          unfolding entryPlaces
-          entries-reach = ltb-false _ _ (neither _ (ltb (pricePlaces prices) (network .nodes - 1)) (sym measured ∙ long) .0)
+          entries-reach = long-lists .0 (sym measured ∙ long) .0
 
           pub prices-reach : network .nodes - 1 ≤ length prices / 4
-          unfolding pricePlaces
-          prices-reach = ltb-false _ _ (neither (ltb (entryPlaces entries) held) _ (sym measured ∙ long) .1)
+          prices-reach = long-lists .0 (sym measured ∙ long) .1 (sym (h .shape-is) ∙ line .line)
 
           -- what the search for too high a price found
           module _ (dear : ℕ) (found : dear ≡ first (network .nodes - 1) (λ s. ltb 1000000 (priceIn prices s))) where

@@ -1,18 +1,18 @@
 -- The checker's ways out, one law each (01, "Refusals by number": after the book's own 14, then 12, then 13, and only then yes or no). A way out is
 -- taken where none before it was. Assumes nothing.
 use mathlib.Core.Path.{_≡_}
-use mathlib.Core.Bool.{Bool, true, false, _||_}
+use mathlib.Core.Bool.{Bool, true, false}
 use mathlib.Core.List.{List}
 use Prim.Native.Nat.{ℕ, _≤_, _<_}
 use native.Mathlib.Omega.{arith}
 use borrow.Author.Tests.{ltb-false, lt-ltb, le-ltb, eq-eqb}
 use lib.Dec.{ltb}
 use Rattle.sums.specs.Each.{before-first, first-none}
-use Rattle.book.specs.Bytes.{entryPlaces, pricePlaces, entryIn, priceIn}
-use Rattle.book.specs.Book.{Book, spans, count}
+use Rattle.book.specs.Bytes.{entryIn, priceIn}
+use Rattle.book.specs.Book.{Book, spans}
 use Rattle.book.specs.Reading.{Outcome, done, refused, andThen, reading}
 use Rattle.rules.specs.Prices.{verdict}
-use Rattle.rules.specs.Operations.{placesShort, tooShort, tooDear, checking, checker}
+use Rattle.rules.specs.Operations.{tooShort, tooDear, checking, checker}
 use Rattle.lines.specs.Line.{Line}
 use Rattle.lines.specs.Ways.{no-ring}
 
@@ -34,11 +34,7 @@ unfolding checking
 ring-refused book entries prices e = rw (eq-eqb (book .shape) 2 e)
 
 module _ {book : Book} (on : Line book) (entries prices : List ℕ) where
-  -- 12 on a line: either list has too few places
-  pub measured : tooShort book entries prices ≡ (ltb (entryPlaces entries) (count book) || ltb (pricePlaces prices) (spans book))
-  unfolding tooShort placesShort
-  measured = rw (eq-eqb (book .shape) 1 (on .line))
-
+  -- 12: a list has too few places
   pub short-refused : tooShort book entries prices ≡ true → refused 12 0 ≡ checking book entries prices
   unfolding checking
   short-refused e = rw (no-ring on, e)

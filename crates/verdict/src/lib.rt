@@ -61,7 +61,13 @@ fn check_book(
         });
     }
     let spans = network.nodes - 1;
-    if places::too_short(count, spans, entries, prices) {
+    if records::shapes::short(
+        network.shape,
+        spans,
+        count,
+        entries.len() / 2,
+        prices.len() / 4,
+    ) {
         return Checked::Refused(records::Refusal {
             number: 12,
             place: 0,

@@ -1,12 +1,11 @@
 // The places of the lent lists (document 01, "What the desk plans"): an entry is two bytes and a price four, high byte first.
 ghost use mathlib.Core.Path.{_≡_};
-ghost use mathlib.Core.Bool.{_||_};
 ghost use Prim.Native.Nat.{_+_, _*_, _≤_};
 ghost use lib.ListN.{length};
 ghost use lib.Dec.{ltb};
 ghost use Rattle.sums.specs.Each.{first};
 ghost use Rattle.sums.specs.Filled.{Filled};
-ghost use Rattle.book.specs.Bytes.{entryPlaces, pricePlaces, priceIn};
+ghost use Rattle.book.specs.Bytes.{priceIn};
 
 // The price of span s.
 pub fn price_at(prices: &[u8], s: usize) -> usize
@@ -14,16 +13,6 @@ pub fn price_at(prices: &[u8], s: usize) -> usize
     ensures { λ r. ⌜ r ≡ priceIn (now (prices .entry)) s ⌝ }
 {
     records::bytes::four(prices, 4 * s)
-}
-
-// Whether the entry list has too few places for the requests, or the price list for the spans (refusal 12).
-pub fn too_short(count: usize, spans: usize, entries: &[u8], prices: &[u8]) -> bool
-    ensures { λ r. ⌜ r ≡ (ltb (entryPlaces (now (entries .entry))) count || ltb (pricePlaces (now (prices .entry))) spans) ⌝ }
-{
-    if entries.len() / 2 < count {
-        return true;
-    }
-    prices.len() / 4 < spans
 }
 
 // The lowest span whose price is above 1,000,000, or the number of spans where there is none (refusal 13).

@@ -14,25 +14,25 @@ returns c h = ring-refused h _ _ (c .if1 .taken)
 
 returns-2 : tie.Need-returns-2
 unfolding checkedOf
-returns-2 c h = short-refused h _ _ (c .before .before .before .if1 .left) _ (c .before .too-short .ensures) (c .if2 .taken)
+returns-2 c h = short-refused h _ _ (c .before .before .before .if1 .left) _ (c .before .short .ensures) (c .if2 .taken)
 
 dear-requires : tie.Need-dear-requires
 dear-requires c κs =
     let straight = c .before .before .before .if1 .left in
-    let h = c .before .before .before .before .before .before .before .pre in
-    omega (arith, prices-reach h _ _ straight _ (c .before .too-short .ensures) (c .if2 .left))
+    let start = c .before .before .before .before .before .before .before in
+    omega (arith, prices-reach (start .pre) (start .args .entries .now) (start .args .prices .now) straight _ (c .before .short .ensures) (c .if2 .left))
 
 returns-3 : tie.Need-returns-3
 unfolding checkedOf
 returns-3 c h =
     let long = c .before .before in
-    dear-refused h _ _ (long .before .before .before .if1 .left) _ (long .before .too-short .ensures) (long .if2 .left) _ (c .before .dear .ensures) (c .if3 .taken)
+    dear-refused h _ _ (long .before .before .before .if1 .left) _ (long .before .short .ensures) (long .if2 .left) _ (c .before .dear .ensures) (c .if3 .taken)
 
 weigh-requires : tie.Need-weigh-requires
 weigh-requires c κs =
     let long = c .before .before in
     let start = long .before .before .before .before .before .before .before in
-    can-check (start .pre) _ _ (long .before .before .before .if1 .left) _ (long .before .too-short .ensures) (long .if2 .left) _ (c .before .dear .ensures) (c .if3 .left)
+    can-check (start .pre) _ _ (long .before .before .before .if1 .left) _ (long .before .short .ensures) (long .if2 .left) _ (c .before .dear .ensures) (c .if3 .left)
 
 returns-4 : tie.Need-returns-4
 unfolding checkedOf
@@ -40,7 +40,7 @@ returns-4 c h =
     let dear = c .before .before .before in
     let long = dear .before in
     sym (ap done (c .if4 .taken))
-    ∙ verdict-given h _ _ (long .before .before .before .if1 .left) _ (long .before .too-short .ensures) (long .if2 .left) _ (dear .dear .ensures) (c .before .before .if3 .left) (c .before .weigh .ensures)
+    ∙ verdict-given h _ _ (long .before .before .before .if1 .left) _ (long .before .short .ensures) (long .if2 .left) _ (dear .dear .ensures) (c .before .before .if3 .left) (c .before .weigh .ensures)
 
 returns-5 : tie.Need-returns-5
 unfolding checkedOf
@@ -48,7 +48,7 @@ returns-5 c h =
     let dear = c .before .before .before in
     let long = dear .before in
     sym (ap done (c .if4 .left))
-    ∙ verdict-given h _ _ (long .before .before .before .if1 .left) _ (long .before .too-short .ensures) (long .if2 .left) _ (dear .dear .ensures) (c .before .before .if3 .left) (c .before .weigh .ensures)
+    ∙ verdict-given h _ _ (long .before .before .before .if1 .left) _ (long .before .short .ensures) (long .if2 .left) _ (dear .dear .ensures) (c .before .before .if3 .left) (c .before .weigh .ensures)
 
 pub check-book-spec : {M : Type 1} → statement M
 check-book-spec =

@@ -1,5 +1,4 @@
 -- `records::shapes::spans_of` meets its contract: on a line of no nodes the difference stops at 0. Assumes nothing.
-use native.Mathlib.Omega.{arith}
 use borrow.Author.Tests.{eq-eqb, ne-eqb}
 use Rattle.book.specs.Book.{spansOf}
 use borrow.Author.Needs.{needs}
@@ -12,11 +11,7 @@ returns c = simp (eq-eqb _ _ (c .if1 .taken))
 
 returns-2 : tie.Need-returns-2
 unfolding spansOf
-returns-2 c = simp (ne-eqb _ _ (c .before .if1 .left)) (omega arith)
-
-returns-3 : tie.Need-returns-3
-unfolding spansOf
-returns-3 c = simp (ne-eqb _ _ (c .before .if1 .left))
+returns-2 c = simp (ne-eqb _ _ (c .before .if1 .left)) (c .less .ensures)
 
 pub spans-of-spec : {M : Type 1} → statement M
-spans-of-spec = tie.close (tie.spec returns returns-2 (λ c. search needs) returns-3)
+spans-of-spec = tie.close (tie.spec returns (λ c κs. search needs) returns-2)
