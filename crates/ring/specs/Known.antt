@@ -14,6 +14,7 @@ use Rattle.book.specs.Columns.{at}
 use Rattle.rules.specs.Prices.{ceiling}
 use Rattle.rules.specs.Cuts.{steps, spanAt, cutBest}
 use Rattle.rings.specs.Turn.{span-below, place-of-span}
+use Rattle.turn.specs.Nodes.{Turned}
 use Rattle.ceiling.specs.PricedLine.{PricedLine}
 use Rattle.ceiling.specs.Above.{best-upto-ceiling}
 use Rattle.cells.specs.Placing.{OneToOne, LowPrices}
@@ -45,13 +46,11 @@ ring-places {nodes} {j} cut few map long = record {
 
 module _ {nodes count : ℕ} {limits a b profits : List ℕ} (w : RingColumns nodes count limits a b profits) (j : ℕ) (cut : j < nodes)
     {limits′ a′ b′ prices known : List ℕ}
-    (turned : Filled (λ t. at limits (spanAt nodes j t)) (nodes - 1) limits′) (from : Filled (λ i. steps nodes (j + 1) (at a i)) count a′)
-    (to : Filled (λ i. steps nodes (j + 1) (at b i)) count b′) (priced : Filled (λ t. at known (spanAt nodes j t)) (nodes - 1) prices)
-    (low : LowPrices known)
+    (turned : Turned nodes j count limits a b limits′ a′ b′) (priced : Filled (λ t. at known (spanAt nodes j t)) (nodes - 1) prices) (low : LowPrices known)
   where
     pub cut-priced : PricedLine (nodes - 1) count limits′ a′ b′ profits prices
     cut-priced =
-        let v = cut-columns w j cut turned from to in
+        let v = cut-columns w j cut turned in
         record {
           book = v .book;
           held = v .held;
@@ -61,5 +60,5 @@ module _ {nodes count : ℕ} {limits a b profits : List ℕ} (w : RingColumns no
     pub cut-bounded : {r : ℕ} → ((v : PricedLine (nodes - 1) count limits′ a′ b′ profits prices) → r ≡ ceiling (v .book) (at prices)) → cutBest (w .book) j ≤ r
     unfolding cut-priced
     cut-bounded says =
-        let v = cut-columns w j cut turned from to in
-        omega (arith, cut-best w j cut turned from to, says cut-priced, best-upto-ceiling (v .held .line) (at prices))
+        let v = cut-columns w j cut turned in
+        omega (arith, cut-best w j cut turned, says cut-priced, best-upto-ceiling (v .held .line) (at prices))

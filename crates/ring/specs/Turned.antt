@@ -5,7 +5,6 @@ use mathlib.Core.Bool.{true}
 use mathlib.Core.Path.{_≡_, refl, ap₂, subst, _∙_}
 use Prim.Native.Nat.{ℕ, _+_, _-_, _≤_, _<_}
 use native.Mathlib.Omega.{arith}
-use Rattle.sums.specs.Filled.{Filled}
 use Rattle.sums.specs.Vacant.{Vacant}
 use Rattle.book.specs.Columns.{at, Holds, few, a-node, b-node}
 use Rattle.rules.specs.Plans.{Best}
@@ -18,7 +17,7 @@ use Rattle.rings.specs.CutLine.{ring-spans, cut-count, cut-line}
 use Rattle.rings.specs.Choice.{cut-in}
 use Rattle.rings.specs.Fair as F
 use Rattle.rings.specs.TurnedColumns.{turned-holds}
-use Rattle.turn.specs.Nodes.{Nodes}
+use Rattle.turn.specs.Nodes.{Nodes, Turned}
 use Rattle.line.specs.declared.Solved.{Solved}
 use Rattle.line.specs.declared.Solved.the-variants.{Planned}
 use Rattle.line.specs.Promise.{LineColumns, CanPlanLine, LinePlanned}
@@ -36,55 +35,53 @@ module _ {nodes count : ℕ} {limits a b profits : List ℕ} (w : RingColumns no
   chosen-in e = omega (arith, e, cut-in (w .ring), ring-spans (w .ring), w .nodes-is)
 
   -- both columns of ends can be turned
-  pub a-nodes : (j : ℕ) → j < nodes → Nodes nodes j count a
-  a-nodes j l = record { cut-in = l; n-upto = few-nodes; count-upto = few (w .ring .sound) (w .holds); are-nodes = λ i h. omega (arith, a-node (w .ring .sound) (w .holds) i h, w .nodes-is) }
-
-  pub b-nodes : (j : ℕ) → j < nodes → Nodes nodes j count b
-  b-nodes j l = record { cut-in = l; n-upto = few-nodes; count-upto = few (w .ring .sound) (w .holds); are-nodes = λ i h. omega (arith, b-node (w .ring .sound) (w .holds) i h, w .nodes-is) }
-
-  module _ (j : ℕ) (cut : j < nodes) {limits′ a′ b′ : List ℕ}
-      (turned : Filled (λ t. at limits (spanAt nodes j t)) (nodes - 1) limits′) (from : Filled (λ i. steps nodes (j + 1) (at a i)) count a′) (to : Filled (λ i. steps nodes (j + 1) (at b i)) count b′)
+  pub can-turn : (j : ℕ) → j < nodes → Nodes nodes j count a × Nodes nodes j count b
+  can-turn j l = (ends (a-node (w .ring .sound) (w .holds)), ends (b-node (w .ring .sound) (w .holds)))
     where
-      turned-line : Holds (cutLine (w .book) j) count limits′ a′ b′ profits
-      turned-line =
-          turned-holds (w .ring) j (omega (arith, w .nodes-is)) (w .holds)
-          (λ t l. subst (λ (n : ℕ). at limits′ t ≡ at limits (spanAt n j t)) (w .nodes-is) (turned .is t (omega (arith, w .nodes-is))))
-          (λ i l. subst (λ (n : ℕ). at a′ i ≡ steps n (j + 1) (at a i)) (w .nodes-is) (from .is i l))
-          (λ i l. subst (λ (n : ℕ). at b′ i ≡ steps n (j + 1) (at b i)) (w .nodes-is) (to .is i l))
+      ends : {column : List ℕ} → ((i : ℕ) → i < count → at column i < w .book .nodes) → Nodes nodes j count column
+      ends below = record { cut-in = l; n-upto = few-nodes; count-upto = few (w .ring .sound) (w .holds); are-nodes = λ i h. omega (arith, below i h, w .nodes-is) }
 
-      pub cut-columns : LineColumns nodes count limits′ a′ b′ profits
-      unfolding cutLine
-      cut-columns =
-          record {
-            book = cutLine (w .book) j;
-            held = line-held (cut-line (w .ring) j (omega (arith, w .nodes-is, ring-spans (w .ring)))) (w .nodes-is) turned-line;
-          }
+  module _ (j : ℕ) (cut : j < nodes) {limits′ a′ b′ : List ℕ} (turned : Turned nodes j count limits a b limits′ a′ b′) where
+    turned-line : Holds (cutLine (w .book) j) count limits′ a′ b′ profits
+    turned-line =
+        turned-holds (w .ring) j (omega (arith, w .nodes-is)) (w .holds)
+        (λ t l. subst (λ (n : ℕ). at limits′ t ≡ at limits (spanAt n j t)) (w .nodes-is) (turned .limits-turned .is t (omega (arith, w .nodes-is))))
+        (λ i l. subst (λ (n : ℕ). at a′ i ≡ steps n (j + 1) (at a i)) (w .nodes-is) (turned .a-turned .is i l))
+        (λ i l. subst (λ (n : ℕ). at b′ i ≡ steps n (j + 1) (at b i)) (w .nodes-is) (turned .b-turned .is i l))
 
-      pub cut-best : cutBest (w .book) j ≡ best (cut-columns .book)
-      unfolding cut-columns cutBest
-      cut-best = refl
+    pub cut-columns : LineColumns nodes count limits′ a′ b′ profits
+    unfolding cutLine
+    cut-columns =
+        record {
+          book = cutLine (w .book) j;
+          held = line-held (cut-line (w .ring) j (omega (arith, w .nodes-is, ring-spans (w .ring)))) (w .nodes-is) turned-line;
+        }
 
-      -- what the line planner says of the turned columns, it says of the cut's line
-      pub cut-earned : {r : ℕ} → ((v : LineColumns nodes count limits′ a′ b′ profits) → r ≡ best (v .book)) → r ≡ cutBest (w .book) j
-      unfolding cut-columns cutBest
-      cut-earned says = says cut-columns
+    pub cut-best : cutBest (w .book) j ≡ best (cut-columns .book)
+    unfolding cut-columns cutBest
+    cut-best = refl
 
-      -- with the ring's channels
-      pub cut-plannable : {channels : ℕ} → channels ≡ w .book .channels → CanPlanLine nodes channels count limits′ a′ b′ profits
-      unfolding cut-columns cutLine
-      cut-plannable its = record { columns = cut-columns; channels-is = its }
+    -- what the line planner says of the turned columns, it says of the cut's line
+    pub cut-earned : {r : ℕ} → ((v : LineColumns nodes count limits′ a′ b′ profits) → r ≡ best (v .book)) → r ≡ cutBest (w .book) j
+    unfolding cut-columns cutBest
+    cut-earned says = says cut-columns
 
-      pub cut-planned :
-          {channels : ℕ} {answer : Solved} {entries prices : List ℕ} → channels ≡ w .book .channels
-          → ((v : CanPlanLine nodes channels count limits′ a′ b′ profits) → LinePlanned (v .columns .book) answer entries prices) → j ≡ Cuts.cut (w .book) → RingPlanned (w .book) answer j entries
-      unfolding cut-columns cut-plannable
-      cut-planned {answer} {entries} its says chosen =
-          let p : LinePlanned (cutLine (w .book) j) answer entries _ = says (cut-plannable its) in
-          record {
-            says = p .says ∙ ap₂ Planned (F.cut-earnings (w .ring) j (at entries)) (F.cut-number (w .ring) j (at entries));
-            cut-is = chosen;
-            best-plan = subst (λ (k : ℕ). Best (cutLine (w .book) k) (at entries)) chosen (p .best-plan);
-            by-rule = subst (λ (k : ℕ). byRule (cutLine (w .book) k) (at entries) ≡ true) chosen (p .by-rule);
-            fair = F.cut-plan-obeys (w .ring) j (omega (arith, w .nodes-is, ring-spans (w .ring))) (at entries) (p .best-plan .fair);
-            entries-end = subst (λ (n : ℕ). Vacant 0 n 256 entries) (cut-count (w .ring) j) (p .entries-end);
-          }
+    -- with the ring's channels
+    pub cut-plannable : {channels : ℕ} → channels ≡ w .book .channels → CanPlanLine nodes channels count limits′ a′ b′ profits
+    unfolding cut-columns cutLine
+    cut-plannable its = record { columns = cut-columns; channels-is = its }
+
+    pub cut-planned :
+        {channels : ℕ} {answer : Solved} {entries prices : List ℕ} → channels ≡ w .book .channels
+        → ((v : CanPlanLine nodes channels count limits′ a′ b′ profits) → LinePlanned (v .columns .book) answer entries prices) → j ≡ Cuts.cut (w .book) → RingPlanned (w .book) answer j entries
+    unfolding cut-columns cut-plannable
+    cut-planned {answer} {entries} its says chosen =
+        let p : LinePlanned (cutLine (w .book) j) answer entries _ = says (cut-plannable its) in
+        record {
+          says = p .says ∙ ap₂ Planned (F.cut-earnings (w .ring) j (at entries)) (F.cut-number (w .ring) j (at entries));
+          cut-is = chosen;
+          best-plan = subst (λ (k : ℕ). Best (cutLine (w .book) k) (at entries)) chosen (p .best-plan);
+          by-rule = subst (λ (k : ℕ). byRule (cutLine (w .book) k) (at entries) ≡ true) chosen (p .by-rule);
+          fair = F.cut-plan-obeys (w .ring) j (omega (arith, w .nodes-is, ring-spans (w .ring))) (at entries) (p .best-plan .fair);
+          entries-end = subst (λ (n : ℕ). Vacant 0 n 256 entries) (cut-count (w .ring) j) (p .entries-end);
+        }

@@ -30,15 +30,23 @@ fn cut_ceiling(
     requires { ⌜ (j < nodes) × LowPrices (now known) ⌝ }
     ensures { λ r. ⌜ ((w : RingColumns nodes count (now (limits .entry)) (now (a .entry)) (now (b .entry)) (now (profit .entry))) → cutBest (w .book) j ≤ r) ⌝ }
 {
-    let mut turned = [0usize; 64];
+    let mut limit = [0usize; 64];
     let mut from = [0usize; 256];
     let mut to = [0usize; 256];
     let mut prices = [0usize; 64];
-    turn::turn_limits(nodes, j, limits, &mut turned);
-    turn::turn_ends(nodes, j, count, a, &mut from);
-    turn::turn_ends(nodes, j, count, b, &mut to);
+    turn::turn_columns(
+        nodes,
+        j,
+        count,
+        limits,
+        a,
+        b,
+        &mut limit,
+        &mut from,
+        &mut to,
+    );
     turn::turn_limits(nodes, j, known, &mut prices);
-    ceiling::ceiling_of(nodes - 1, count, &turned, &from, &to, profit, &prices)
+    ceiling::ceiling_of(nodes - 1, count, &limit, &from, &to, profit, &prices)
 }
 
 // What the line which cut j leaves can earn. Its prices become the known ones.
@@ -60,9 +68,17 @@ fn cut_earnings(
     let mut limit = [0usize; 64];
     let mut from = [0usize; 256];
     let mut to = [0usize; 256];
-    turn::turn_limits(nodes, j, limits, &mut limit);
-    turn::turn_ends(nodes, j, count, a, &mut from);
-    turn::turn_ends(nodes, j, count, b, &mut to);
+    turn::turn_columns(
+        nodes,
+        j,
+        count,
+        limits,
+        a,
+        b,
+        &mut limit,
+        &mut from,
+        &mut to,
+    );
     known::best_earnings(j, nodes, count, &limit, &from, &to, profit, known)
 }
 
@@ -108,7 +124,17 @@ fn best_cut(
     let mut top = cut_earnings(0, nodes, count, limits, a, b, profit, &mut known);
     let mut j = 1;
     while j < nodes {
-        let earned = raised(top, j, nodes, count, limits, a, b, profit, &mut known);
+        let earned = raised(
+            top,
+            j,
+            nodes,
+            count,
+            limits,
+            a,
+            b,
+            profit,
+            &mut known,
+        );
         if top < earned {
             top = earned;
             best = j;
@@ -132,13 +158,21 @@ pub fn plan_ring(
     ensures { λ r. ⌜ ((w : CanPlanRing nodes channels count (now (limits .entry)) (now (a .entry)) (now (b .entry)) (now (profit .entry))) → RingPlanned (w .columns .book) (r .answer) (r .cut) (r .entries)) ⌝ }
 {
     let j = best_cut(nodes, count, limits, a, b, profit);
-    let mut turned = [0usize; 64];
+    let mut limit = [0usize; 64];
     let mut from = [0usize; 256];
     let mut to = [0usize; 256];
-    turn::turn_limits(nodes, j, limits, &mut turned);
-    turn::turn_ends(nodes, j, count, a, &mut from);
-    turn::turn_ends(nodes, j, count, b, &mut to);
-    let plan = line::plan_line(nodes, channels, count, &turned, &from, &to, profit);
+    turn::turn_columns(
+        nodes,
+        j,
+        count,
+        limits,
+        a,
+        b,
+        &mut limit,
+        &mut from,
+        &mut to,
+    );
+    let plan = line::plan_line(nodes, channels, count, &limit, &from, &to, profit);
     let answer = plan.answer;
     let entries = plan.entries;
     RingPlan {

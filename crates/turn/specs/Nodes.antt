@@ -1,7 +1,9 @@
 -- What turning a ring's columns along the line which a cut leaves asks and promises. Assumes nothing.
 use mathlib.Core.List.{List}
-use Prim.Native.Nat.{ℕ, _≤_, _<_}
+use Prim.Native.Nat.{ℕ, _+_, _-_, _≤_, _<_}
+use Rattle.sums.specs.Filled.{Filled}
 use Rattle.book.specs.Columns.{at}
+use Rattle.rules.specs.Cuts.{steps, spanAt}
 
 -- a cut of a ring, and ends that are nodes of it
 pub record Nodes (n j count : ℕ) (ends : List ℕ) : Type 0 where
@@ -9,3 +11,9 @@ pub record Nodes (n j count : ℕ) (ends : List ℕ) : Type 0 where
   pub n-upto : n ≤ 64
   pub count-upto : count ≤ 256
   pub are-nodes : (i : ℕ) → i < count → at ends i < n
+
+-- the ring's columns along the line which cut j leaves
+pub record Turned (n j count : ℕ) (limits a b limit from to : List ℕ) : Type 0 where
+  pub limits-turned : Filled (λ t. at limits (spanAt n j t)) (n - 1) limit
+  pub a-turned : Filled (λ i. steps n (j + 1) (at a i)) count from
+  pub b-turned : Filled (λ i. steps n (j + 1) (at b i)) count to

@@ -4,7 +4,7 @@ ghost use Prim.Native.Nat.{_+_, _-_, _≤_, _<_};
 ghost use Rattle.rules.specs.Cuts as C;
 ghost use Rattle.sums.specs.Filled.{Filled};
 ghost use Rattle.book.specs.Columns.{at};
-ghost use Rattle.turn.specs.Nodes.{Nodes};
+ghost use Rattle.turn.specs.Nodes.{Nodes, Turned};
 
 // How many spans there are from node u up to node v, passing from the last node to node 0.
 fn steps(n: usize, u: usize, v: usize) -> usize
@@ -30,7 +30,7 @@ pub fn span_at(n: usize, j: usize, t: usize) -> usize
 }
 
 // One end of each request, counted along the line which cut j leaves.
-pub fn turn_ends(n: usize, j: usize, count: usize, ends: &[usize; 256], turned: &mut [usize; 256])
+fn turn_ends(n: usize, j: usize, count: usize, ends: &[usize; 256], turned: &mut [usize; 256])
     requires { ⌜ Nodes n j count (now ends) ⌝ }
     ensures { λ r. ⌜ Filled (λ i. C.steps n (j + 1) (at (now (ends .entry)) i)) count (now (turned .exit)) ⌝ }
 {
@@ -57,4 +57,24 @@ pub fn turn_limits(n: usize, j: usize, limits: &[usize; 64], turned: &mut [usize
         turned[t] = limits[span_at(n, j, t)];
         t += 1;
     }
+}
+
+// The limits and both ends of each request, along the line which cut j leaves.
+pub fn turn_columns(
+    n: usize,
+    j: usize,
+    count: usize,
+    limits: &[usize; 64],
+    a: &[usize; 256],
+    b: &[usize; 256],
+    limit: &mut [usize; 64],
+    from: &mut [usize; 256],
+    to: &mut [usize; 256],
+)
+    requires { ⌜ Nodes n j count (now a) × Nodes n j count (now b) ⌝ }
+    ensures { λ r. ⌜ Turned n j count (now (limits .entry)) (now (a .entry)) (now (b .entry)) (now (limit .exit)) (now (from .exit)) (now (to .exit)) ⌝ }
+{
+    turn_limits(n, j, limits, limit);
+    turn_ends(n, j, count, a, from);
+    turn_ends(n, j, count, b, to);
 }
