@@ -1,6 +1,6 @@
 -- Forms of test that the rules of 01 take, read both ways: "not s, or t" asks for t where s passes, and "r, or not s, or not t" asks for r
 -- where both pass. Assumes nothing.
-use mathlib.Core.Path.{_≡_, refl, sym}
+use mathlib.Core.Path.{_≡_, refl}
 use mathlib.Core.Bool.{Bool, true, false, not, _&&_, _||_}
 use Prim.Native.Nat.{ℕ}
 use Rattle.sums.specs.Each.{some, some-at, of-yes, left-of, right-of, fails}
@@ -28,11 +28,6 @@ both-imply false false t f = refl
 -- three tests joined
 pub all-three : (r s t : Bool) → (r && s && t) ≡ true → (r ≡ true) × (s ≡ true) × (t ≡ true)
 all-three r s t e = let p = left-of (r && s) t e in (left-of r s p, right-of r s p, right-of (r && s) t e)
-
--- neither of two tests passed
-pub neither : (s t : Bool) → (s || t) ≡ false → (s ≡ false) × (t ≡ false)
-neither true t e = absurd (of-yes (sym e))
-neither false t e = (refl, e)
 
 -- a second test matters only where the first passes
 pub when-so : (s : Bool) {t u : Bool} → (s ≡ true → t ≡ u) → (s && t) ≡ (s && u)
