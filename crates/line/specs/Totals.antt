@@ -1,19 +1,18 @@
 -- A sum over what is kept, after one turn more of its loop: a kept one adds what it counts for, another nothing. Assumes nothing.
-use mathlib.Core.Path.{_≡_}
+use mathlib.Core.Path.{_≡_, sym}
 use mathlib.Core.Bool.{Bool, true, false}
 use mathlib.Core.List.{List}
-use Prim.Native.Nat.{ℕ, _+_}
-use native.Mathlib.Omega.{arith}
-use Rattle.sums.specs.Sums.{Σ, when, when-yes, when-no}
-use Rattle.sums.specs.Turns.{Σ-more}
+use Prim.Native.Nat.{ℕ, _+_, _≤_}
+use Rattle.sums.specs.Sums.{when, when-yes, when-no}
+use Rattle.sums.specs.Turns.{Running, running-more, running-still}
 use Rattle.planrow.specs.State.{flag}
 
-abbrev over : List Bool → (ℕ → ℕ) → ℕ → ℕ
-over kept f i = when (flag kept i) (f i)
+abbrev pub overKept : List Bool → (ℕ → ℕ) → ℕ → ℕ
+overKept kept f i = when (flag kept i) (f i)
 
-module _ (kept : List Bool) (f : ℕ → ℕ) (n : ℕ) {s : ℕ} (was : s ≡ Σ n (over kept f)) where
-  pub kept-more : flag kept n ≡ true → s + f n ≡ Σ (n + 1) (over kept f)
-  kept-more e = omega (arith, Σ-more n (over kept f), when-yes (flag kept n) (f n) e)
+module _ (kept : List Bool) (f : ℕ → ℕ) {most n sum : ℕ} (was : Running most (overKept kept f) n sum) where
+  pub kept-more : flag kept n ≡ true → f n ≤ most → Running most (overKept kept f) (n + 1) (sum + f n)
+  kept-more e upto = running-more (f n) was (sym (when-yes (flag kept n) (f n) e)) upto
 
-  pub left-more : flag kept n ≡ false → s ≡ Σ (n + 1) (over kept f)
-  left-more e = omega (arith, Σ-more n (over kept f), when-no (flag kept n) (f n) e)
+  pub left-more : flag kept n ≡ false → Running most (overKept kept f) (n + 1) sum
+  left-more e = running-still was (when-no (flag kept n) (f n) e)

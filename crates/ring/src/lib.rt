@@ -124,17 +124,7 @@ fn best_cut(
     let mut top = cut_earnings(0, nodes, count, limits, a, b, profit, &mut known);
     let mut j = 1;
     while j < nodes {
-        let earned = raised(
-            top,
-            j,
-            nodes,
-            count,
-            limits,
-            a,
-            b,
-            profit,
-            &mut known,
-        );
+        let earned = raised(top, j, nodes, count, limits, a, b, profit, &mut known);
         if top < earned {
             top = earned;
             best = j;

@@ -25,5 +25,9 @@ module _ {most : ℕ} {f : ℕ → ℕ} where
   pub running-more : {n sum : ℕ} (v : ℕ) → Running most f n sum → v ≡ f n → v ≤ most → Running most f (n + 1) (sum + v)
   running-more {n} v was is upto = record { sum-is = omega (arith, was .sum-is, Σ-more n f); small = omega (arith, was .small) }
 
+  -- a turn that adds nothing
+  pub running-still : {n sum : ℕ} → Running most f n sum → f n ≡ 0 → Running most f (n + 1) sum
+  running-still {n} was is = record { sum-is = omega (arith, was .sum-is, Σ-more n f); small = omega (arith, was .small) }
+
 pub each-fails : (n : ℕ) (f : ℕ → Bool) (i : ℕ) → i < n → f i ≡ false → each n f ≡ false
 each-fails n f i l e = fails (λ all. of-yes (sym e ∙ each-at n f all i l))

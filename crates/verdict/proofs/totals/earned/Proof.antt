@@ -6,24 +6,26 @@ use native.Mathlib.Omega.{arith}
 use borrow.Author.Needs.{needs}
 use lib.Dec.{eqb}
 use Rattle.sums.specs.Sums.{when-le}
+use Rattle.sums.specs.Turns.{Running, running-none, running-more}
 use Rattle.book.specs.Bytes.{entryIn}
 use Rattle.book.specs.Columns.{at}
 use Rattle.rules.specs.Plans.{kept}
-use Rattle.verdict.specs.Totals.{Earning, earning-none, earning-more}
+use Rattle.verdict.specs.Totals.{earning}
 use Rattle.verdict.proofs.totals.earned.Statement.{statement}
 use Rattle.verdict.proofs.totals.earned.Tie as tie
 
 abbrev Inv-loop : tie.InvT-loop
-Inv-loop count profits entries sum₀ i₀ sum i = (i ≤ count) × Earning i profits (entryIn entries) sum
+Inv-loop count profits entries sum₀ i₀ sum i = (i ≤ count) × Running 1000000 (earning profits (entryIn entries)) i sum
 
 abbrev μ-loop : tie.MeasureT-loop
 μ-loop count profits entries sum₀ i₀ sum i = count - i
 
 loop-holds : tie.Need-loop-holds Inv-loop μ-loop
-loop-holds c = (omega arith, earning-none)
+loop-holds c = (omega arith, running-none)
 
-add-sum : tie.Need-add-sum Inv-loop μ-loop
-add-sum c =
+-- what a turn adds is at most a profit
+upto-profit : (c : tie.After-where-kept Inv-loop μ-loop) → c .where-kept .result ≤ 1000000
+upto-profit c =
     let start = c .before .before .before .before .before .before in
     let i = c .before .before .before .before .loop .i in
     omega (
@@ -31,15 +33,16 @@ add-sum c =
       c .where-kept .ensures,
       when-le (not (eqb (c .before .before .entry-at .result) 0)) (at (start .args .profits .now) i),
       start .pre .profit-upto i (omega arith),
-      start .pre .count-upto,
     )
+
+add-sum : tie.Need-add-sum Inv-loop μ-loop
+add-sum c = omega (arith, upto-profit c, c .before .before .before .before .before .before .pre .count-upto)
 
 loop-again : tie.Need-loop-again Inv-loop μ-loop
 unfolding kept
 loop-again c =
-    let start = c .before .before .before .before .before .before in
     let l = c .before .before .before .before .loop in
-    (omega arith, earning-more _ (l .inv .1) (start .pre .profit-upto (l .i) (omega arith)) (rw (c .before .before .entry-at .ensures) at (c .where-kept .ensures)))
+    (omega arith, running-more _ (l .inv .1) (rw (c .before .before .entry-at .ensures) at (c .where-kept .ensures)) (upto-profit c))
 
 returns : tie.Need-returns Inv-loop μ-loop
 returns c =
