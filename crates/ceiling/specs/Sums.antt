@@ -14,7 +14,7 @@ use Rattle.row.specs.Row.{fare}
 use Rattle.row.specs.Along.{fare-along}
 use Rattle.lines.specs.RowOf.{rowOf}
 use Rattle.lines.specs.Ceiling.{ceiling-row}
-use Rattle.lines.specs.HeldLine.{few-spans, few, a-in, b-in, profit-in, limit-in}
+use Rattle.lines.specs.HeldLine.{few-spans, few, a-in, b-in, profits-in, limit-in}
 use Rattle.ceiling.specs.PricedLine.{PricedLine}
 use Rattle.ceiling.specs.Tolls.{Payable, Tolled, rent-upto}
 use Rattle.ceiling.specs.Surplus.{fareAt, Tallies}
@@ -34,10 +34,9 @@ module _ {spans count : ℕ} {limits a b profits prices : List ℕ} (w : PricedL
 
     pub tallies : Tallies count a b profits toll
     tallies = record {
-      count-upto = few (w .held);
-      a-upto = λ i l. omega (arith, a-in (w .held) i l, few-spans (w .held));
-      b-upto = λ i l. omega (arith, b-in (w .held) i l, few-spans (w .held));
-      profit-upto = profit-in (w .held);
+      a-in = record { few = few (w .held); below = λ i l. omega (arith, a-in (w .held) i l, few-spans (w .held)) };
+      b-in = record { few = few (w .held); below = λ i l. omega (arith, b-in (w .held) i l, few-spans (w .held)) };
+      profits-in = profits-in (w .held);
       rising = λ i l. omega (arith, fare-tolls i l);
     }
 
@@ -65,6 +64,6 @@ module _ {spans count : ℕ} {limits a b profits prices : List ℕ} (w : PricedL
             few-spans (w .held),
             tallied,
             tolled .rent-is,
-            Σ-most count (λ i. at profits i - fareAt a b toll i) 1000000 (λ i l. omega (arith, profit-in (w .held) i l)),
+            Σ-most count (λ i. at profits i - fareAt a b toll i) 1000000 (λ i l. omega (arith, profits-in (w .held) .upto i l)),
             Σ-most spans (λ s. at limits s * at prices s) 96000000 (λ s l. rent-upto _ _ (limit-in (w .held) s l) (w .price-upto s l)),
           )

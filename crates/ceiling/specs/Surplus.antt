@@ -4,6 +4,7 @@ use mathlib.Core.Path.{_≡_}
 use mathlib.Core.List.{List}
 use Prim.Native.Nat.{ℕ, _+_, _-_, _≤_, _<_, min, max}
 use native.Mathlib.Omega.{arith}
+use Rattle.sums.specs.At.{NumbersBelow, NumbersUpto}
 use Rattle.sums.specs.Turns.{Running, running-none, running-more}
 use Rattle.book.specs.Columns.{at}
 
@@ -13,10 +14,9 @@ fareAt a b toll i = at toll (max (at a i) (at b i)) - at toll (min (at a i) (at 
 
 -- at most 256 requests between nodes, their profits within bounds, and tolls that do not fall
 pub record Tallies (count : ℕ) (a b profits toll : List ℕ) : Type 0 where
-  pub count-upto : count ≤ 256
-  pub a-upto : (i : ℕ) → i < count → at a i < 64
-  pub b-upto : (i : ℕ) → i < count → at b i < 64
-  pub profit-upto : (i : ℕ) → i < count → at profits i ≤ 1000000
+  pub a-in : NumbersBelow 64 count a
+  pub b-in : NumbersBelow 64 count b
+  pub profits-in : NumbersUpto 1000000 count profits
   pub rising : (i : ℕ) → i < count → at toll (min (at a i) (at b i)) ≤ at toll (max (at a i) (at b i))
 
 -- after i requests

@@ -5,17 +5,12 @@ use mathlib.Core.Path.{_≡_}
 use Prim.Native.Nat.{ℕ, suc, _≤_, _<_, min, max}
 use lib.ListN.{getD}
 use lib.IntN.{ℤ, pos}
-use Rattle.sums.specs.At.{at}
+use Rattle.sums.specs.At.{at, NumbersUpto}
 use Rattle.sums.specs.Filled.{Filled}
 use Rattle.signed.specs.Parts.{up, dn}
 use Rattle.row.specs.Clamp.{clamp}
 use Rattle.flow.specs.Balanced.{priceAt}
 use Rattle.planrow.specs.State.{depth, lowest, Standing}
-
--- at most 256 requests, each with a profit of at most 1,000,000
-pub record Profits (count : ℕ) (profits : List ℕ) : Type 0 where
-  pub few : count ≤ 256
-  pub upto : (i : ℕ) → i < count → at profits i ≤ 1000000
 
 -- the first n requests as candidates: over the cells from the lower end up to the upper one, at a cost of minus the profit
 pub record Candidates (n : ℕ) (a b profits lo hi : List ℕ) (cost : List ℤ) : Type 0 where
@@ -27,7 +22,7 @@ pub record Candidates (n : ℕ) (a b profits lo hi : List ℕ) (cost : List ℤ)
 -- a row of at most 63 cells that the requests lie on, each over some cell
 pub record CanSolve (cells count : ℕ) (limits a b profits : List ℕ) : Type 0 where
   pub cells-upto : cells ≤ 63
-  pub profits-are : Profits count profits
+  pub profits-are : NumbersUpto 1000000 count profits
   pub a-node : (i : ℕ) → i < count → at a i ≤ cells
   pub b-node : (i : ℕ) → i < count → at b i ≤ cells
   pub ends-differ : (i : ℕ) → i < count → at a i ≡ at b i → ⊥

@@ -1,9 +1,9 @@
 // A line's columns as a row, and the prices of its cells.
 ghost use mathlib.Core.Path.{_≡_};
 ghost use Prim.Native.Nat.{_-_, min};
-ghost use Rattle.sums.specs.At.{NumbersBelow};
+ghost use Rattle.sums.specs.At.{NumbersBelow, NumbersUpto};
 ghost use Rattle.signed.specs.Parts.{dn};
-ghost use Rattle.cells.specs.Steps.{Profits, Candidates, CanSolve, Solves, Falls, prices-of};
+ghost use Rattle.cells.specs.Steps.{Candidates, CanSolve, Solves, Falls, prices-of};
 ghost use Rattle.cells.specs.Placing.{CanPrice, Placed};
 ghost use Rattle.cells.specs.Reordered.{Arranged, PutBack};
 
@@ -17,7 +17,7 @@ fn lay(
     hi: &mut [usize; 256],
     cost: &mut [i64; 256],
 )
-    requires { ⌜ Profits count (now profit) ⌝ }
+    requires { ⌜ NumbersUpto 1000000 count (now profit) ⌝ }
     ensures { λ r. ⌜ Candidates count (now (a .entry)) (now (b .entry)) (now (profit .entry)) (now (lo .exit)) (now (hi .exit)) (now (cost .exit)) ⌝ }
 {
     // the whole array, so that its length is known

@@ -65,16 +65,16 @@ module _ {file : List ℕ} (entries prices : List ℕ) {r : BookPlan} (made : Bo
     pub numbers-fit : SmallPlan earned number cut
     numbers-fit = plan-small (plan .sound) planned
 
-    pub entries-fit : length (r .entries) ≡ 256 → Fit 2 (r .count) (r .entries) entries
-    entries-fit all =
+    pub entries-fit : Fit 2 (r .count) (r .entries) entries
+    entries-fit =
         let fair = fair-printable {entries = r .entries} (plan .sound) (plan-holds plan) (plan .planned .fair) in
-        record { there = omega (arith, fair .many); room = omega (arith, plan .count-is, long .entries); whole = λ i h. omega (arith, fair .entry i h) }
+        record { there = omega (arith, plan .entries-end .long, fair .entries-in .few); room = omega (arith, plan .count-is, long .entries); whole = λ i h. omega (arith, fair .entries-in .upto i h) }
 
-    pub prices-fit : length (r .prices) ≡ 64 → r .shape ≡ 1 → Fit 4 (r .spans) (r .prices) prices
-    prices-fit all e =
+    pub prices-fit : r .shape ≡ 1 → Fit 4 (r .spans) (r .prices) prices
+    prices-fit e =
         let on : book .shape ≡ 1 = omega (arith, plan .shape-is) in
         record {
-          there = omega (arith, plan .spans-is, few-spans (plan .sound));
+          there = omega (arith, plan .line-prices-end on .long, plan .spans-is, few-spans (plan .sound));
           room = omega (arith, plan .spans-is, long .prices on);
           whole = λ j h. omega (arith, plan .priced on .small j (omega (arith, plan .spans-is)));
         }

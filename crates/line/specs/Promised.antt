@@ -7,6 +7,7 @@ use Prim.Native.Nat.{ℕ, suc, _-_, _≤_, _<_}
 use native.Mathlib.Omega.{arith}
 use lib.ListN.{length, drop, replicate}
 use lib.IntN.{ℤ}
+use Rattle.sums.specs.At.{NumbersUpto}
 use Rattle.sums.specs.Sums.{when, Σ-ext}
 use Rattle.sums.specs.Filled.{Filled}
 use Rattle.sums.specs.Vacant.{Vacant, vacant-new, vacant-part}
@@ -22,7 +23,7 @@ use Rattle.row.specs.Channels.{Ruled}
 use Rattle.row.specs.Same.{SameIntervals, SameKept, Same, load-same, ruled-same}
 use Rattle.lines.specs.RowOf.{rowOf}
 use Rattle.lines.specs.Ways.{line-spans}
-use Rattle.lines.specs.HeldLine.{few-spans, few, a-in, b-in, ends-differ, profit-in, limit-in}
+use Rattle.lines.specs.HeldLine.{few-spans, a-in, b-in, ends-differ, profits-in, limit-in}
 use Rattle.lines.specs.Laid.{Laid, load-row, ruled-rule}
 use Rattle.lines.specs.Found.{rule-obeys}
 use Rattle.lines.specs.Ceiling.{yes-best}
@@ -34,7 +35,7 @@ use Rattle.cells.specs.Solving.{real-intervals}
 use Rattle.cells.specs.Placing.{Placed}
 use Rattle.line.specs.declared.Solved.the-variants.{Planned}
 use Rattle.line.specs.Promise.{LineColumns, LinePlanned}
-use Rattle.line.specs.Steps.{Channels, Entered, sumOf, numberOf}
+use Rattle.line.specs.Steps.{Entered, sumOf, numberOf}
 use Rattle.line.specs.AsRow.{same-intervals, same-row}
 use Rattle.line.specs.Certified.{Certified, certified, certified-yes, earns-best}
 use Rattle.line.specs.Written.{keeps-are, goes-its-way, channels-are, sum-is, number-is}
@@ -55,7 +56,7 @@ module _ {nodes count : ℕ} {limits a b profits : List ℕ} (w : LineColumns no
       let h = w .held in
       record {
         cells-upto = few-spans h;
-        profits-are = record { few = few h; upto = profit-in h };
+        profits-are = profits-in h;
         a-node = a-in h;
         b-node = b-in h;
         ends-differ = ends-differ h;
@@ -111,7 +112,7 @@ module _ {nodes count : ℕ} {limits a b profits : List ℕ} (w : LineColumns no
           }
 
       module _ {k : ℕ} (its : k ≡ w .book .channels) {given : Given} {channels : List ℕ} (h : HandedOut (nodes - 1) count k lo hi keeps given channels) where
-        pub channels-small : Channels count channels
+        pub channels-small : NumbersUpto 96 count channels
         channels-small = record { few = can-solve .profits-are .few; upto = λ i l. omega (arith, h .upto i l, can-hand-out its .k-upto) }
 
         -- ---- entries and prices as they are written

@@ -1,7 +1,7 @@
 -- What the functions of this crate promise each other: the entries, and the sums over what is kept. Assumes nothing.
 use mathlib.Core.Bool.{Bool}
 use mathlib.Core.List.{List}
-use Prim.Native.Nat.{ℕ, _≤_, _<_}
+use Prim.Native.Nat.{ℕ}
 use Rattle.sums.specs.Sums.{Σ, when, bit}
 use Rattle.sums.specs.Filled.{Filled}
 use Rattle.book.specs.Columns.{at}
@@ -15,11 +15,6 @@ sumOf n kept profits = Σ n (λ i. when (flag kept i) (at profits i))
 
 abbrev pub numberOf : ℕ → List Bool → ℕ
 numberOf n kept = Σ n (λ i. bit (flag kept i))
-
--- channels that leave the way whole in an entry
-pub record Channels (count : ℕ) (channel : List ℕ) : Type 0 where
-  pub few : count ≤ 256
-  pub upto : (i : ℕ) → i < count → at channel i ≤ 96
 
 -- the way of request i, from a to b
 unfoldable pub wayIn : List ℕ → List ℕ → ℕ → ℕ

@@ -6,6 +6,7 @@ use mathlib.Core.List.{List}
 use Prim.Native.Nat.{ℕ, _/_, _%_, _<_}
 use native.Mathlib.Omega.{arith}
 use lib.Dec.{eqb}
+use Rattle.sums.specs.At.{NumbersUpto}
 use Rattle.sums.specs.Sums.{when, bit, Σ-ext}
 use Rattle.book.specs.Book.{Book}
 use Rattle.book.specs.Columns.{at, Holds}
@@ -15,11 +16,11 @@ use Rattle.lines.specs.Ways.{way-from}
 use Rattle.lines.specs.Laid.{Laid}
 use Rattle.lines.specs.Entries.{kept-entered, way-entered, channel-entered}
 use Rattle.planrow.specs.State.{flag}
-use Rattle.line.specs.Steps.{Channels, wayIn, Entered, sumOf, numberOf}
+use Rattle.line.specs.Steps.{wayIn, Entered, sumOf, numberOf}
 
 module _
     {book : Book} {count : ℕ} {limits a b profits : List ℕ} {keeps : List Bool} {channels entries : List ℕ}
-    (holds : Holds book count limits a b profits) (small : Channels count channels) (written : Entered count a b keeps channels entries)
+    (holds : Holds book count limits a b profits) (small : NumbersUpto 96 count channels) (written : Entered count a b keeps channels entries)
   where
     pub keeps-are : (i : ℕ) → i < count → flag keeps i ≡ kept (at entries) i
     unfolding kept wayIn

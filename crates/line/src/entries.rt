@@ -2,12 +2,12 @@
 ghost use mathlib.Core.Path.{_≡_};
 ghost use Prim.Native.Nat.{_≤_};
 ghost use Rattle.sums.specs.Vacant.{Vacant};
-ghost use Rattle.cells.specs.Steps.{Profits};
-ghost use Rattle.line.specs.Steps.{Channels, Entered, sumOf, numberOf};
+ghost use Rattle.sums.specs.At.{NumbersUpto};
+ghost use Rattle.line.specs.Steps.{Entered, sumOf, numberOf};
 
 // The profits of the kept ones.
 pub fn earned(count: usize, kept: &[bool; 256], profit: &[usize; 256]) -> usize
-    requires { ⌜ Profits count (now profit) ⌝ }
+    requires { ⌜ NumbersUpto 1000000 count (now profit) ⌝ }
     ensures { λ r. ⌜ r ≡ sumOf count (now (kept .entry)) (now (profit .entry)) ⌝ }
 {
     let mut sum = 0;
@@ -46,7 +46,7 @@ pub fn enter(
     channel: &[usize; 256],
     entries: &mut [usize; 256],
 )
-    requires { ⌜ Channels count (now channel) ⌝ }
+    requires { ⌜ NumbersUpto 96 count (now channel) ⌝ }
     ensures { λ r. ⌜ Entered count (now (a .entry)) (now (b .entry)) (now (kept .entry)) (now (channel .entry)) (now (entries .exit)) ⌝ }
     ensures { λ r. ⌜ (Vacant 0 count 256 (now (entries .entry)) → Vacant 0 count 256 (now (entries .exit))) ⌝ }
 {

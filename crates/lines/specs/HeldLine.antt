@@ -3,6 +3,7 @@ use mathlib.Core.Path.{_≡_}
 use mathlib.Core.List.{List}
 use Prim.Native.Nat.{ℕ, _-_, _≤_, _<_}
 use native.Mathlib.Omega.{arith}
+use Rattle.sums.specs.At.{NumbersUpto}
 use Rattle.book.specs.Book as Books
 use Rattle.book.specs.Book.{Book}
 use Rattle.book.specs.Columns as Columns
@@ -38,8 +39,8 @@ module _ {book : Book} {spans count : ℕ} {limits a b profits : List ℕ} (h : 
   pub ends-differ : (i : ℕ) → i < count → at a i ≡ at b i → ⊥
   ends-differ = Columns.ends-differ (h .line .sound) (h .holds)
 
-  pub profit-in : (i : ℕ) → i < count → at profits i ≤ 1000000
-  profit-in = profit-upto (h .line .sound) (h .holds)
+  pub profits-in : NumbersUpto 1000000 count profits
+  profits-in = record { few = few; upto = profit-upto (h .line .sound) (h .holds) }
 
   pub limit-in : (s : ℕ) → s < spans → at limits s ≤ 96
   limit-in s l =

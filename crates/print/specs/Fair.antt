@@ -40,8 +40,7 @@ pub fair-printable :
     → Sound book → Holds book count limits a b profits → obeys book (at entries) ≡ true → Printable count a b entries
 fair-printable {book} {entries} sound holds e =
     record {
-      many = few sound holds;
-      a-node = λ i h. omega (arith, a-node sound holds i h, sound .nodes-upto);
-      b-node = λ i h. omega (arith, b-node sound holds i h, sound .nodes-upto);
-      entry = λ i h. entry-small book (at entries) i sound (obeys-fair book (at entries) e) (omega (arith, holds .counted));
+      a-in = record { few = few sound holds; below = λ i h. omega (arith, a-node sound holds i h, sound .nodes-upto) };
+      b-in = record { few = few sound holds; below = λ i h. omega (arith, b-node sound holds i h, sound .nodes-upto) };
+      entries-in = record { few = few sound holds; upto = λ i h. entry-small book (at entries) i sound (obeys-fair book (at entries) e) (omega (arith, holds .counted)) };
     }

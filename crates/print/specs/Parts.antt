@@ -77,7 +77,7 @@ printing-none a b entries before start = record { put = rw add-zero at (put-none
 module _ {count : ℕ} {a b entries before out : List ℕ} {start i place : ℕ} (can : Printable count a b entries) (h : i < count) (w : Printing a b entries before start i out place) where
   pub request-room : start + linesRoom 256 ≤ length before → RequestRoom out place i (at a i) (at b i) (at entries i / 256) (at entries i % 256)
   request-room r =
-      record { enough = omega (arith, request-short i (at a i) (at b i) (at entries i) (omega arith) (can .a-node i h) (can .b-node i h) (can .entry i h)) }
+      record { enough = omega (arith, request-short i (at a i) (at b i) (at entries i) (omega arith) (can .a-in .below i h) (can .b-in .below i h) (can .entries-in .upto i h)) }
 
   pub printing-more :
       {after : List ℕ} {next : ℕ} → Put out after place (lineAt a b entries i) next → Printing a b entries before start (i + 1) after next
@@ -89,7 +89,7 @@ module _ {count : ℕ} {a b entries before out : List ℕ} {start i place : ℕ}
             omega (
               arith,
               request-length i (at a i) (at b i) (at entries i / 256) (at entries i % 256),
-              request-short i (at a i) (at b i) (at entries i) (omega arith) (can .a-node i h) (can .b-node i h) (can .entry i h),
+              request-short i (at a i) (at b i) (at entries i) (omega arith) (can .a-in .below i h) (can .b-in .below i h) (can .entries-in .upto i h),
             );
       }
 

@@ -1,7 +1,8 @@
 -- What the two printing functions promise, and what the second asks. Assumes nothing.
 use mathlib.Core.List.{List}
 use mathlib.Core.Path.{_≡_}
-use Prim.Native.Nat.{ℕ, _+_, _*_, _≤_, _<_}
+use Prim.Native.Nat.{ℕ, _+_, _*_, _≤_}
+use Rattle.sums.specs.At.{NumbersBelow, NumbersUpto}
 use Rattle.text.specs.Put.{Put}
 use Rattle.book.specs.Book.{Book}
 use Rattle.book.specs.Columns.{at, Holds}
@@ -14,10 +15,9 @@ pub record PrintsRefusal (number place : ℕ) (before after : List ℕ) (r : ℕ
 
 -- what the caller sees to: 256 requests at most, whose ends are nodes and whose entries are at most 2 × 256 + 96, which is enough to count digits
 pub record Printable (count : ℕ) (a b entries : List ℕ) : Type 0 where
-  pub many : count ≤ 256
-  pub a-node : (i : ℕ) → i < count → at a i < 64
-  pub b-node : (i : ℕ) → i < count → at b i < 64
-  pub entry : (i : ℕ) → i < count → at entries i ≤ 2 * 256 + 96
+  pub a-in : NumbersBelow 64 count a
+  pub b-in : NumbersBelow 64 count b
+  pub entries-in : NumbersUpto (2 * 256 + 96) count entries
 
 -- a plan's text, whatever book of that shape the columns hold
 pub record PrintsPlan (shape count earned number cut : ℕ) (a b entries before after : List ℕ) (r : ℕ) : Type 0 where

@@ -26,6 +26,11 @@ pub record NumbersBelow (bound count : ℕ) (xs : List ℕ) : Type 0 where
   pub few : count ≤ 256
   pub below : (i : ℕ) → i < count → at xs i < bound
 
+-- or at most a bound: profits, channels, entries
+pub record NumbersUpto (most count : ℕ) (xs : List ℕ) : Type 0 where
+  pub few : count ≤ 256
+  pub upto : (i : ℕ) → i < count → at xs i ≤ most
+
 -- ---- after one store
 
 -- ys is xs with v stored at place i: v stands there, and at any other place what stood there

@@ -11,7 +11,7 @@ use Rattle.book.specs.Bytes.{priceIn, entryIn}
 use Rattle.book.specs.Columns.{at}
 use Rattle.rules.specs.Plans.{kept, earnings}
 use Rattle.rules.specs.Prices.{ceiling}
-use Rattle.lines.specs.HeldLine.{few, profit-in}
+use Rattle.lines.specs.HeldLine.{profits-in}
 use Rattle.ceiling.specs.PricedLine.{PricedLine}
 use Rattle.ceiling.specs.Same.{ceiling-same}
 use Rattle.verdict.specs.Totals.{CanEarn}
@@ -19,7 +19,7 @@ use Rattle.verdict.specs.CanCheck.{CanCheck}
 
 module _ {spans count : ℕ} {limits a b profits entries prices : List ℕ} (w : CanCheck spans limits count a b profits entries prices) where
   pub can-earn : CanEarn count profits entries
-  can-earn = record { count-upto = few (w .held); enough = w .entries-enough; profit-upto = profit-in (w .held) }
+  can-earn = record { profits-in = profits-in (w .held); enough = w .entries-enough }
 
   module _ {list : List ℕ} (listed : Filled (priceIn prices) spans list) where
     unfoldable pub priced-line : PricedLine spans count limits a b profits list

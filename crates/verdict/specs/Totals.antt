@@ -1,15 +1,15 @@
 -- The earnings of a plan, by its entries and the column of profits: what they are asked of, and what each request adds. Assumes nothing.
 use mathlib.Core.List.{List}
-use Prim.Native.Nat.{ℕ, _*_, _≤_, _<_}
+use Prim.Native.Nat.{ℕ, _*_, _≤_}
 use lib.ListN.{length}
+use Rattle.sums.specs.At.{NumbersUpto}
 use Rattle.sums.specs.Sums.{when}
 use Rattle.book.specs.Columns.{at}
 use Rattle.rules.specs.Plans.{Plan, kept}
 
 pub record CanEarn (count : ℕ) (profits entries : List ℕ) : Type 0 where
-  pub count-upto : count ≤ 256
+  pub profits-in : NumbersUpto 1000000 count profits
   pub enough : 2 * count ≤ length entries
-  pub profit-upto : (i : ℕ) → i < count → at profits i ≤ 1000000
 
 -- what request i earns
 abbrev pub earning : List ℕ → Plan → ℕ → ℕ

@@ -19,19 +19,19 @@ loop-holds c = (omega arith, tallying-none)
 fare-of-requires : tie.Need-fare-of-requires Inv-loop μ-loop
 fare-of-requires c κs =
     let pre = c .before .before .before .before .pre in
-    (pre .a-upto _ (omega arith), pre .b-upto _ (omega arith), pre .rising _ (omega arith))
+    (pre .a-in .below _ (omega arith), pre .b-in .below _ (omega arith), pre .rising _ (omega arith))
 
 add-sum : tie.Need-add-sum Inv-loop μ-loop
 add-sum c =
     let pre = c .before .before .before .before .before .before .before .pre in
     let l = c .before .before .before .before .before .before .loop in
-    omega (arith, c .less .ensures, pre .profit-upto (l .i) (omega arith), pre .count-upto)
+    omega (arith, c .less .ensures, pre .profits-in .upto (l .i) (omega arith), pre .profits-in .few)
 
 loop-again : tie.Need-loop-again Inv-loop μ-loop
 loop-again c =
     let pre = c .before .before .before .before .before .before .before .pre in
     let l = c .before .before .before .before .before .before .loop in
-    (omega arith, tallying-more _ _ (l .inv .1) (pre .profit-upto (l .i) (omega arith)) (c .before .before .fare-of .ensures) (c .less .ensures))
+    (omega arith, tallying-more _ _ (l .inv .1) (pre .profits-in .upto (l .i) (omega arith)) (c .before .before .fare-of .ensures) (c .less .ensures))
 
 returns : tie.Need-returns Inv-loop μ-loop
 returns c =

@@ -32,11 +32,11 @@ upto-profit c =
       arith,
       c .where-kept .ensures,
       when-le (not (eqb (c .before .before .entry-at .result) 0)) (at (start .args .profits .now) i),
-      start .pre .profit-upto i (omega arith),
+      start .pre .profits-in .upto i (omega arith),
     )
 
 add-sum : tie.Need-add-sum Inv-loop μ-loop
-add-sum c = omega (arith, upto-profit c, c .before .before .before .before .before .before .pre .count-upto)
+add-sum c = omega (arith, upto-profit c, c .before .before .before .before .before .before .pre .profits-in .few)
 
 loop-again : tie.Need-loop-again Inv-loop μ-loop
 unfolding kept
