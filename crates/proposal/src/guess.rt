@@ -108,7 +108,10 @@ fn bid(profit: usize, off: usize) -> usize {
     if 1000000 < profit {
         return 0;
     }
-    64 * numbers::less(profit, off)
+    if profit < off {
+        return 0;
+    }
+    64 * (profit - off)
 }
 
 // What each request bids, and the sum.

@@ -25,7 +25,10 @@ pub fn range(count: usize, list: &[usize]) -> Extremes
 
 // What every request is given above the least profit, so that a length counts with that one too.
 pub fn lift(least: usize, greatest: usize) -> usize {
-    numbers::less(greatest, least) / 16 + 1
+    if greatest < least {
+        return 1;
+    }
+    (greatest - least) / 16 + 1
 }
 
 // What a request of this length counts for: nearly 64 parts in 64 + length, of 16384, by a curve that needs no division. From 76 on it falls no more.
