@@ -1,18 +1,19 @@
 -- Demand 3, last sentence, at the boundary: what `melyonva_plan` writes is what `melyonva_check` reads. So the entries and prices in the caller's bytes get a
--- yes, and with those prices every best plan gets a yes and no other plan does. Assumes nothing.
+-- yes, and with those prices every best plan gets a yes and no other plan does; the prices of two calls say the same of every plan. Assumes nothing.
 use mathlib.Core.Bool.{true, false}
 use mathlib.Core.List.{List}
 use mathlib.Core.Path.{_≡_, refl, sym, ap, _∙_}
 use Prim.Native.Nat.{ℕ, _+_, _*_, _^_, _/_, _%_, _≤_, _<_}
 use native.Mathlib.Nat.{div-div-eq-div-mul, mod-eq-of-lt}
 use native.Mathlib.Omega.{arith}
+use Rattle.sums.specs.Each.{same-test}
 use Rattle.book.specs.Bytes.{byte, two, four, entryIn, priceIn, entryPlaces, pricePlaces}
 use Rattle.book.specs.Book.{Book, spans, count}
 use Rattle.book.specs.Reading.{done, reading}
 use Rattle.book.specs.Sound.{sound}
 use Rattle.rules.specs.Plans.{Plan, Best}
 use Rattle.rules.specs.Prices.{Prices, verdict}
-use Rattle.rules.specs.Operations.{plannable, checker}
+use Rattle.rules.specs.Operations.{plannable, checker, Priced}
 use Rattle.lines.specs.Line.{Line}
 use Rattle.lines.specs.Ceiling.{yes-for-best, no-for-others}
 use Rattle.verdict.specs.Demand3.{is-verdict}
@@ -20,6 +21,7 @@ use Rattle.planner.specs.Cases.{plannable-read}
 use Rattle.desk.specs.Packing.{packedVerdict}
 use Rattle.desk.specs.Promise.{Written, EntriesWritten, PricesWritten, Handed, PlanAnswer}
 use Rattle.desk.specs.Bounds.{LongEnough, long-enough}
+use Rattle.demands.specs.Equal.{prices-equal}
 use Rattle.demands.specs.NotRead.{verdict-same}
 
 -- ---- the bytes that are written are the numbers that are read
@@ -89,6 +91,10 @@ module _ {file entries prices entries′ prices′ : List ℕ} {answer : ℕ} (m
     accepted : verdict book (entryIn entries′) (priceIn prices′) ≡ true
     accepted = verdict-same book price-there (λ i l. entry-written (handed .written) l) ∙ handed .priced line .accepted
 
+    -- the prices written are accepted prices
+    priced-there : Priced book (entryIn entries′) (priceIn prices′)
+    priced-there = record { small = λ s l. omega (arith, price-there s l, handed .priced line .small s l); accepted = accepted }
+
     entries-there : count book ≤ entryPlaces entries′
     unfolding entryPlaces
     entries-there = omega (arith, enough .entries, handed .written .length-same)
@@ -109,3 +115,20 @@ module _ {file entries prices entries′ prices′ : List ℕ} {answer : ℕ} (m
       pub desk-others-get-no : (Best book (entryIn other) → ⊥) → (checker file other prices′ ≡ done false) × (packedVerdict (checker file other prices′) ≡ 0)
       unfolding packedVerdict
       desk-others-get-no not-best = let no = said other there ∙ ap done (no-for-others on (entryIn other) (priceIn prices′) not-best) in (no, ap packedVerdict no)
+
+-- the prices that two calls write for one book say the same of every entry list with a place for each request
+module _ {file entries₁ prices₁ entries₁′ prices₁′ entries₂ prices₂ entries₂′ prices₂′ : List ℕ} {answer₁ answer₂ : ℕ}
+    (made₁ : PlanAnswer file entries₁ prices₁ answer₁ entries₁′ prices₁′) (made₂ : PlanAnswer file entries₂ prices₂ answer₂ entries₂′ prices₂′)
+    {book : Book} (long₁ : plannable file entries₁ prices₁ ≡ done book) (long₂ : plannable file entries₂ prices₂ ≡ done book) (line : book .shape ≡ 1)
+  where
+    pub desk-prices-say-same : (other : List ℕ) → count book ≤ entryPlaces other → checker file other prices₁′ ≡ checker file other prices₂′
+    desk-prices-say-same other there =
+        said made₁ long₁ line other there
+        ∙ ap done (same-test (prices-equal (on made₁ long₁ line) own₁ own₂ (entryIn other)) (prices-equal (on made₁ long₁ line) own₂ own₁ (entryIn other)))
+        ∙ sym (said made₂ long₂ line other there)
+      where
+        own₁ : Priced book (entryIn entries₁′) (priceIn prices₁′)
+        own₁ = priced-there made₁ long₁ line
+
+        own₂ : Priced book (entryIn entries₂′) (priceIn prices₂′)
+        own₂ = priced-there made₂ long₂ line

@@ -1,9 +1,9 @@
 -- What a C caller sees of two plans that the boundary's promise allows for one book. The price list of a ring is one list; on a line the prices may differ, and
--- the bytes after them do not. Where the plans keep the same requests, the answers are the same number and the entry lists the same bytes. Assumes nothing.
+-- the bytes after them do not; the earnings and the cut are one. Where the plans keep the same requests, the answers are the same number and the entry lists the same bytes. Assumes nothing.
 use mathlib.Core.List.{List}
 use mathlib.Core.Logic.{⊎-elim}
 use mathlib.Core.Path.{_≡_, sym, _∙_}
-use Prim.Native.Nat.{ℕ, _+_, _-_, _*_, _/_, _%_, _≤_, _<_}
+use Prim.Native.Nat.{ℕ, _+_, _-_, _*_, _^_, _/_, _%_, _≤_, _<_}
 use native.Mathlib.Omega.{arith}
 use lib.Seq.{ext-getD}
 use Rattle.sums.specs.Each.{less-or-not}
@@ -12,6 +12,7 @@ use Rattle.book.specs.Book.{Book, spans, count}
 use Rattle.book.specs.Sound.{Sound}
 use Rattle.rules.specs.Plans.{kept}
 use Rattle.desk.specs.Promise.{Handed}
+use Rattle.desk.specs.Unpacking.{handed-told}
 use Rattle.demands.specs.Equal.{cut-equal, earned-equal, number-equal, entries-equal}
 
 module _ {book : Book} {entries prices entries₁ prices₁ entries₂ prices₂ : List ℕ} {answer₁ answer₂ : ℕ}
@@ -27,6 +28,13 @@ module _ {book : Book} {entries prices entries₁ prices₁ entries₂ prices₂
 
     pub desk-prices-later-equal : book .shape ≡ 1 → (t : ℕ) → 4 * spans book ≤ t → byte prices₁ t ≡ byte prices₂ t
     desk-prices-later-equal line t l = p .line-prices line .later t l ∙ sym (q .line-prices line .later t l)
+
+    -- the earnings and the cut, as the caller reads them from the answer's bits
+    pub desk-earned-equal : Sound book → answer₁ / 2 ^ 32 ≡ answer₂ / 2 ^ 32
+    desk-earned-equal sound = handed-told sound p .1 ∙ earned-equal sound (p .planned) (q .planned) ∙ sym (handed-told sound q .1)
+
+    pub desk-cut-equal : Sound book → answer₁ % 2 ^ 16 ≡ answer₂ % 2 ^ 16
+    desk-cut-equal sound = handed-told sound p .3 ∙ cut-equal sound (p .planned) (q .planned) ∙ sym (handed-told sound q .3)
 
     -- where they keep the same requests
     module _ (sound : Sound book) (same : (i : ℕ) → i < count book → kept (p .plan) i ≡ kept (q .plan) i) where

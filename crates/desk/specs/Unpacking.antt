@@ -10,12 +10,12 @@ use lib.Dec.{ltb, eqb}
 use Rattle.sums.specs.Sums.{bit}
 use Rattle.book.specs.Book.{Book}
 use Rattle.book.specs.Bytes.{entryPlaces, pricePlaces}
-use Rattle.book.specs.Sound.{sound}
+use Rattle.book.specs.Sound.{Sound, sound}
 use Rattle.book.specs.Reading.{Outcome, done, refused}
 use Rattle.rules.specs.Operations.{checker, plannable}
 use Rattle.planner.specs.Cases.{plannable-read}
 use Rattle.desk.specs.Packing.{packedRefusal, packedPlan, packedVerdict}
-use Rattle.desk.specs.Promise.{PlanAnswer}
+use Rattle.desk.specs.Promise.{Handed, PlanAnswer}
 use Rattle.desk.specs.Bounds.{SmallRefusal, SmallPlan, refusal-small, plan-small, checker-small}
 
 -- ---- bit 63, then the parts
@@ -62,6 +62,11 @@ checker-told file entries prices = read-back (checker file entries prices) (chec
 
 -- ---- what `melyonva_plan` answers: a refusal, or the plan's numbers
 
+pub handed-told :
+    {book : Book} {entries prices entries′ prices′ : List ℕ} {answer : ℕ} → Sound book → (plan : Handed book answer entries prices entries′ prices′)
+    → PlanTold answer (plan .earned) (plan .number) (plan .cut)
+handed-told sound plan = rw (plan .says) (plan-told (plan-small sound (plan .planned)))
+
 module _ {file entries prices entries′ prices′ : List ℕ} {answer : ℕ} (made : PlanAnswer file entries prices answer entries′ prices′) where
   pub planner-refusal-told : {number place : ℕ} → plannable file entries prices ≡ refused number place → RefusalTold answer number place
   unfolding plannable
@@ -71,5 +76,4 @@ module _ {file entries prices entries′ prices′ : List ℕ} {answer : ℕ} (m
   pub planner-plan-told : (book : Book) (is : plannable file entries prices ≡ done book) → let plan = made .plan book is in PlanTold answer (plan .earned) (plan .number) (plan .cut)
   unfolding plannable
   planner-plan-told book is =
-      let plan = made .plan book is in
-      rw (plan .says) (plan-told (plan-small (sound file book (plannable-read file (entryPlaces entries) (pricePlaces prices) book is .0)) (plan .planned)))
+      handed-told (sound file book (plannable-read file (entryPlaces entries) (pricePlaces prices) book is .0)) (made .plan book is)
