@@ -7,7 +7,7 @@ use native.Mathlib.Omega.{arith}
 use Rattle.sums.specs.Each.{same-or-not}
 use Rattle.flow.specs.Balanced.{Proper, Deep}
 use Rattle.flow.specs.Searching.{Ground, DeepAt, Searching}
-use Rattle.flow.specs.Walking.{Open}
+use Rattle.flow.specs.Walking.{Trail}
 use Rattle.flow.specs.Raise.{raised, raised-deep, raised-open}
 
 -- a was reached: what the walk back needs
@@ -15,11 +15,7 @@ pub record Reached (g : Ground) (a b most : ℕ) (d rank by from : ℕ → ℕ) 
   pub root : d b ≡ 0
   pub shorter : d a < most
   pub deep : Deep (g .row) (g .t) (g .x) (g .s) (raised (d a) (g .N) d)
-  pub ranked : 0 < rank a
-  pub trail : (w : ℕ) → w ≤ g .row .cells → 0 < rank w → (w ≡ b → ⊥) → Open (g .row) (g .t) (g .x) (g .s) (raised (d a) (g .N) d) (by w) (from w) w
-  pub from-in : (w : ℕ) → w ≤ g .row .cells → 0 < rank w → (w ≡ b → ⊥) → from w ≤ g .row .cells
-  pub from-ranked : (w : ℕ) → w ≤ g .row .cells → 0 < rank w → (w ≡ b → ⊥) → 0 < rank (from w)
-  pub falls : (w : ℕ) → w ≤ g .row .cells → 0 < rank w → (w ≡ b → ⊥) → rank (from w) < rank w
+  pub trail : Trail (g .row) (g .t) (g .x) (g .s) (raised (d a) (g .N) d) b rank by from a
 
 -- a was not reached within `most`
 pub record Unreached (g : Ground) (a b most : ℕ) (d : ℕ → ℕ) : Type 0 where
@@ -40,11 +36,15 @@ module _ {g : Ground} {a b most clock : ℕ} {d rank by from : ℕ → ℕ}
           root = searching .labels .root;
           shorter = shorter;
           deep = raised-deep deep proper searching nearest;
-          ranked = omega (arith, searching .labels .ticks);
-          trail = λ w l r n. raised-open deep searching l (near w l r .0) n (near w l r .1);
-          from-in = λ w l r n. searching .labels .from-in w l (near w l r .0) n;
-          from-ranked = λ w l r n. omega (arith, earlier w l r n);
-          falls = λ w l r n. omega (arith, earlier w l r n);
+          trail = record {
+            ranked = omega (arith, searching .labels .ticks);
+            step = λ w l r h n. record {
+              arc = raised-open deep searching l (near w l r .0) n (near w l r .1);
+              from-in = searching .labels .from-in w l (near w l r .0) n;
+              from-ranked = omega (arith, earlier w l r n);
+              falls = omega (arith, earlier w l r n);
+            };
+          };
         }
       where
         -- a ranked node is nearer than `most` and no farther than a

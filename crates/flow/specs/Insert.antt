@@ -31,11 +31,7 @@ module _ {g : Ground} {most : ℕ} {d : ℕ → ℕ} {x′ : ℕ → Bool}
     insert-walks r kept =
         walk-start balanced
         (deep-more (r .deep) same (λ e. omega (arith, r .shorter, r .root)) (λ left. absurd (of-yes (sym left ∙ kept))))
-        same kept proper refl refl (r .ranked)
-        (λ w l k n h. r .trail w l k n)
-        (λ w l k h n. r .from-in w l k n)
-        (λ w l k h n. r .from-ranked w l k n)
-        (λ w l k h n. r .falls w l k n)
+        same kept proper refl refl (r .trail)
 
 -- cells with room are level, so the row does not deepen from a to b
 run-level : {N : ℕ → ℕ} (a b : ℕ) → a ≤ b → ((j : ℕ) → a ≤ j → j < b → N (suc j) ≤ N j) → N b ≤ N a

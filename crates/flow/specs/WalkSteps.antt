@@ -12,7 +12,7 @@ use Rattle.sums.specs.Sums.{Σ, bit, Σ-ext, Σ-change}
 use Rattle.row.specs.Row.{Row, covers}
 use Rattle.row.specs.Meets.{first-in}
 use Rattle.flow.specs.Balanced.{Proper, loadTo, Deep, Balanced}
-use Rattle.flow.specs.Walking.{Open, up, down, along, back, Walking}
+use Rattle.flow.specs.Walking.{Open, up, down, along, back, StepBack, Trail, trail-stays, Walking}
 
 -- ---- loads
 
@@ -113,17 +113,20 @@ one-arc {x} {e} small l a a′ =
 -- ---- the steps
 
 module _ {row : Row} {t : ℕ} {x : ℕ → Bool} {s N : ℕ → ℕ} {b : ℕ} {rank by from : ℕ → ℕ} {v : ℕ} (walk : Walking row t x s N b rank by from v) (going : v ≡ b → ⊥) where
+  step : StepBack row t x s N rank by from v
+  step = walk .trail .step v (walk .node) (walk .trail .ranked) (omega arith) going
+
   arc : Open row t x s N (by v) (from v) v
-  arc = walk .trail v (walk .node) (walk .ranked) (omega arith) going
+  arc = step .arc
 
   pub which-arc : (by v ≡ 256) ⊎ ((by v ≡ 257) ⊎ (by v < t))
   which-arc = kind arc
 
   pub walk-falls : rank (from v) < rank v
-  walk-falls = walk .falls v (walk .node) (walk .ranked) (omega arith) going
+  walk-falls = step .falls
 
   pub walk-in : from v ≤ row .cells
-  walk-in = walk .from-in v (walk .node) (walk .ranked) (omega arith) going
+  walk-in = step .from-in
 
   -- the ends of a candidate's arc
   pub along-ends : t ≤ 256 → by v < t → x (by v) ≡ false → (from v ≡ row .lo (by v)) × (v ≡ row .hi (by v))
@@ -141,13 +144,9 @@ module _ {row : Row} {t : ℕ} {x : ℕ → Bool} {s N : ℕ → ℕ} {b : ℕ} 
       → Walking row t x′ s′ N b rank by from (from v)
   stepped moved deep others = record {
     node = walk-in;
-    ranked = walk .from-ranked v (walk .node) (walk .ranked) (omega arith) going;
     room = λ j l. omega (arith, moved j l, walk .room j l, between-round b v (from v) j);
     deep = deep;
-    trail = λ w l r h n. others (by w) (from w) w (λ q. omega (arith, ap rank q, walk-falls)) (walk .trail w l r (omega (arith, walk-falls)) n);
-    from-in = λ w l r h n. walk .from-in w l r (omega (arith, walk-falls)) n;
-    from-ranked = λ w l r h n. walk .from-ranked w l r (omega (arith, walk-falls)) n;
-    falls = λ w l r h n. walk .falls w l r (omega (arith, walk-falls)) n;
+    trail = trail-stays refl (step .from-ranked) (omega (arith, walk-falls)) (λ w h. others (by w) (from w) w (λ q. omega (arith, ap rank q, walk-falls))) (walk .trail);
   }
 
   module _ (small : t ≤ 256) where
@@ -268,21 +267,13 @@ pub walk-start :
     → Proper row (suc t₀)
     → a ≡ row .lo t₀
     → b ≡ row .hi t₀
-    → 0 < rank a
-    → ((w : ℕ) → w ≤ row .cells → 0 < rank w → (w ≡ b → ⊥) → rank w ≤ rank a → Open row t₀ x₀ s N (by w) (from w) w)
-    → ((w : ℕ) → w ≤ row .cells → 0 < rank w → rank w ≤ rank a → (w ≡ b → ⊥) → from w ≤ row .cells)
-    → ((w : ℕ) → w ≤ row .cells → 0 < rank w → rank w ≤ rank a → (w ≡ b → ⊥) → 0 < rank (from w))
-    → ((w : ℕ) → w ≤ row .cells → 0 < rank w → rank w ≤ rank a → (w ≡ b → ⊥) → rank (from w) < rank w)
+    → Trail row t₀ x₀ s N b rank by from a
     → Walking row (suc t₀) x s N b rank by from a
-walk-start {row} {t₀} {x₀} {x} {s} {a} {b} balanced deep same on proper lo hi ranked trail from-in from-ranked falls = record {
+walk-start {row} {t₀} {x₀} {x} {s} {a} {b} balanced deep same on proper lo hi trail = record {
   node = omega (arith, first-in proper t₀ (omega arith));
-  ranked = ranked;
   room = room;
   deep = deep;
-  trail = λ w l r h n. still (omega arith) (same _) (λ k m. m) (trail w l r n h);
-  from-in = from-in;
-  from-ranked = from-ranked;
-  falls = falls;
+  trail = trail-stays refl (trail .ranked) (omega arith) (λ w h. still (omega arith) (same _) (λ k m. m)) trail;
 }
   where
     room : (j : ℕ) → j < row .cells → s j + loadTo row (suc t₀) x j + between b a j ≡ row .limit j + between a b j

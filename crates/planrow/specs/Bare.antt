@@ -3,10 +3,12 @@
 -- Assumes nothing.
 use Prim.Native.Nat.{ℕ}
 use mathlib.Core.Bool.{Bool}
+use mathlib.Core.Path.{refl}
+use native.Mathlib.Omega.{arith}
 use Rattle.row.specs.Row.{Row}
 use Rattle.flow.specs.Balanced.{Proper, Deep}
 use Rattle.flow.specs.Searching.{Ground}
-use Rattle.flow.specs.Walking.{Open}
+use Rattle.flow.specs.Walking.{Open, trail-stays}
 use Rattle.flow.specs.Ends.{Reached, Unreached}
 
 -- the same cells and candidates, with these limits and this count
@@ -33,11 +35,7 @@ reached-limited r = record {
   root = r .root;
   shorter = r .shorter;
   deep = deep-limited (r .deep);
-  ranked = r .ranked;
-  trail = λ w l k n. open-limited (r .trail w l k n);
-  from-in = r .from-in;
-  from-ranked = r .from-ranked;
-  falls = r .falls;
+  trail = trail-stays refl (r .trail .ranked) (omega arith) (λ w h. open-limited) (r .trail);
 }
 
 pub unreached-limited : {limit : ℕ → ℕ} {count a b most : ℕ} {g : Ground} {d : ℕ → ℕ} → Unreached g a b most d → Unreached (limitedGround limit count g) a b most d
