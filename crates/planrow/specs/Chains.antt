@@ -10,7 +10,7 @@ use lib.ListN.{getD}
 use Rattle.signed.specs.Bits.{rd, back, within}
 use Rattle.signed.specs.Parts.{up, dn, Neg, neg}
 use Rattle.flow.specs.SearchSteps.{spread-relaxed, along-arc, back-arc, chain-step-along, chain-step-back, chain-skip-along, chain-skip-back}
-use Rattle.planrow.specs.State.{at, flag, depth, groundIn, Ready, Flagged, endsOf, costAlong, LatestBelow, Chained, Marks, Lacks, Tried, Spreads, DoneFrom, NoneDone}
+use Rattle.planrow.specs.State.{at, flag, depth, groundIn, Ready, Flagged, endsOf, costAlong, LatestBelow, EndsAt, Chained, Marks, Lacks, Tried, Spreads, DoneFrom, NoneDone}
 use Rattle.planrow.specs.Relaxed.{cost-back, passing, relaxing}
 use Rattle.planrow.specs.Stages.{spreads-on}
 
@@ -27,7 +27,7 @@ skip false lo hi cost kept room dist d i j s none = chain-skip-along s (λ k m l
 
 -- u has followed the chain of a side down to i
 pub record Followed (side : Bool) (cells t : ℕ) (lo hi : List ℕ) (cost : List ℤ) (kept : List Bool) (room : List ℕ) (dist : List ℤ) (most u : ℕ) (m₀ m : Marks) (i : ℕ) : Type 0 where
-  pub here : (e : ℕ) → i ≡ suc e → Flagged side t kept e × (at (endsOf side lo hi) e ≡ u)
+  pub here : (e : ℕ) → i ≡ suc e → EndsAt (Flagged side t kept) (at (endsOf side lo hi)) u e
   pub spreads : Spreads (groundIn cells t lo hi cost kept room dist) most (NoneDone side) (DoneFrom side i) u m₀ m
 
 -- no link in a gap of the chain has its end at u
@@ -57,10 +57,10 @@ module _
     spreads = spreads-on (spreads-on (rw q at (f .spreads)) done) (passing (λ s. skip side lo hi cost kept room dist _ _ _ s (λ k m l n r. omega (arith, after .last k l (n, r ∙ sym (own .1))))));
   }
     where
-      own : Flagged side t kept e × (at (endsOf side lo hi) e ≡ u)
+      own : EndsAt (Flagged side t kept) (at (endsOf side lo hi)) u e
       own = f .here e q
 
-      after : LatestBelow (λ i. Flagged side t kept i × (at (endsOf side lo hi) i ≡ at (endsOf side lo hi) e)) e (at next e)
+      after : LatestBelow (EndsAt (Flagged side t kept) (at (endsOf side lo hi)) (at (endsOf side lo hi) e)) e (at next e)
       after = chain .nexts e (own .0)
 
 -- ---- one link: the arc out of u along dropped candidate e, or back along kept candidate e

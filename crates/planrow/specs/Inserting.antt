@@ -11,6 +11,7 @@ use mir.Syntax.{w64}
 use mir.Val.{SFits}
 use Rattle.signed.specs.Parts.{dn}
 use Rattle.signed.specs.Bits.{rd, back}
+use Rattle.row.specs.Meets.{first-in}
 use Rattle.flow.specs.Balanced.{Balanced}
 use Rattle.flow.specs.Certificate.{fare-depth, dropped-at-once}
 use Rattle.flow.specs.Insert.{insert-free, insert-dropped, insert-walks}
@@ -38,8 +39,8 @@ module _ {cells t : ℕ} {lo hi : List ℕ} {cost : List ℤ} {kept : List Bool}
     ordered : at lo t < at hi t
     ordered = w .proper .some-cell t (omega arith)
 
-    pub first-in : at lo t ≤ cells
-    first-in = omega (arith, ordered, inside)
+    pub first-inside : at lo t ≤ cells
+    first-inside = first-in (w .proper) t (omega arith)
 
     pub ready : Ready cells t lo hi cost kept room dist
     ready = record {
@@ -55,8 +56,8 @@ module _ {cells t : ℕ} {lo hi : List ℕ} {cost : List ℤ} {kept : List Bool}
     gains = record {
       cost-not-above = w .costs .not-above t (omega arith);
       cost-low = w .costs .upto t (omega arith);
-      near-not-above = ready .dists .not-above (at lo t) (omega (arith, first-in));
-      near-low = ready .dists .upto (at lo t) (omega (arith, first-in));
+      near-not-above = ready .dists .not-above (at lo t) (omega (arith, first-inside));
+      near-low = ready .dists .upto (at lo t) (omega (arith, first-inside));
       far-not-above = ready .dists .not-above (at hi t) (omega (arith, inside));
       far-low = ready .dists .upto (at hi t) (omega (arith, inside));
     }

@@ -6,12 +6,8 @@ use mathlib.Core.Logic.{⊎-elim}
 use Prim.Native.Nat.{ℕ, suc, _+_, _≤_, _<_}
 use native.Mathlib.Omega.{arith}
 use Rattle.sums.specs.Each.{same-or-not}
-use Rattle.planrow.specs.State.{LatestBelow, Chained}
+use Rattle.planrow.specs.State.{LatestBelow, EndsAt, Chained}
 use Rattle.planrow.specs.Joining.{Joins}
-
--- one of these, with its end at w
-abbrev pub At : (ℕ → Type 0) → (ℕ → ℕ) → ℕ → ℕ → Type 0
-At In ends w i = In i × (ends i ≡ w)
 
 -- the same candidates, said in another way
 pub chained-same : {cells : ℕ} {In In′ : ℕ → Type 0} {ends : ℕ → ℕ} {head next : List ℕ} → ((i : ℕ) → In i → In′ i) → ((i : ℕ) → In′ i → In i) →
@@ -22,14 +18,14 @@ chained-same {In = In} {In′} {ends} there back c = record {
   nexts = λ j o. same (c .nexts j (back j o));
 }
   where
-    same : {w bound p : ℕ} → LatestBelow (At In ends w) bound p → LatestBelow (At In′ ends w) bound p
+    same : {w bound p : ℕ} → LatestBelow (EndsAt In ends w) bound p → LatestBelow (EndsAt In′ ends w) bound p
     same l = record { upto = l .upto; one = λ i q. let o = l .one i q in (there i (o .0), o .1); last = λ i h o. l .last i h (back i (o .0), o .1) }
 
 module _ {In In′ : ℕ → Type 0} {ends : ℕ → ℕ} {e : ℕ} (k : Joins In In′ e) where
   -- ---- one pointer, when e joins
 
   -- it leads to a later one than e, or e has another end
-  pub stays : {w bound p : ℕ} → (e < bound → ends e ≡ w → e < p) → LatestBelow (At In ends w) bound p → LatestBelow (At In′ ends w) bound p
+  pub stays : {w bound p : ℕ} → (e < bound → ends e ≡ w → e < p) → LatestBelow (EndsAt In ends w) bound p → LatestBelow (EndsAt In′ ends w) bound p
   stays far l = record {
     upto = l .upto;
     one = λ i q. let o = l .one i q in (k .stay i (o .0), o .1);
@@ -37,14 +33,14 @@ module _ {In In′ : ℕ → Type 0} {ends : ℕ → ℕ} {e : ℕ} (k : Joins I
   }
 
   -- it leads to an earlier one: now to e, and e's own to that one
-  pub raised : {w bound p : ℕ} → ends e ≡ w → e < bound → p ≤ e → LatestBelow (At In ends w) bound p → LatestBelow (At In′ ends w) bound (e + 1)
+  pub raised : {w bound p : ℕ} → ends e ≡ w → e < bound → p ≤ e → LatestBelow (EndsAt In ends w) bound p → LatestBelow (EndsAt In′ ends w) bound (e + 1)
   raised here h upto l = record {
     upto = omega arith;
     one = λ i q. let s : i ≡ e = omega arith in rw s (k .own, here);
     last = λ i g o. ⊎-elim (λ (q : i ≡ e). omega arith) (λ n. omega (arith, l .last i g (k .rest i (o .0) n, o .1))) (same-or-not i e);
   }
 
-  pub own-next : {w bound p : ℕ} → e < bound → p ≤ e → LatestBelow (At In ends w) bound p → LatestBelow (At In′ ends w) e p
+  pub own-next : {w bound p : ℕ} → e < bound → p ≤ e → LatestBelow (EndsAt In ends w) bound p → LatestBelow (EndsAt In′ ends w) e p
   own-next h upto l = record {
     upto = upto;
     one = λ i q. let o = l .one i q in (k .stay i (o .0), o .1);
@@ -54,7 +50,7 @@ module _ {In In′ : ℕ → Type 0} {ends : ℕ → ℕ} {e : ℕ} (k : Joins I
   -- ---- one pointer, when e leaves
 
   -- it does not lead to e
-  pub spared : {w bound p : ℕ} → (p ≡ suc e → ⊥) → LatestBelow (At In′ ends w) bound p → LatestBelow (At In ends w) bound p
+  pub spared : {w bound p : ℕ} → (p ≡ suc e → ⊥) → LatestBelow (EndsAt In′ ends w) bound p → LatestBelow (EndsAt In ends w) bound p
   spared n l = record {
     upto = l .upto;
     one = λ i q. let o = l .one i q in (k .rest i (o .0) (λ s. n (q ∙ ap suc s)), o .1);
@@ -62,7 +58,7 @@ module _ {In In′ : ℕ → Type 0} {ends : ℕ → ℕ} {e : ℕ} (k : Joins I
   }
 
   -- it leads to e: now to where e's own does
-  pub lowered : {w bound p a : ℕ} → p ≡ suc e → LatestBelow (At In′ ends w) bound p → LatestBelow (At In′ ends (ends e)) e a → LatestBelow (At In ends w) bound a
+  pub lowered : {w bound p a : ℕ} → p ≡ suc e → LatestBelow (EndsAt In′ ends w) bound p → LatestBelow (EndsAt In′ ends (ends e)) e a → LatestBelow (EndsAt In ends w) bound a
   lowered is l own = record {
     upto = omega (arith, l .upto, own .upto);
     one = λ i q. let o = own .one i q in (k .rest i (o .0) (λ s. omega (arith, own .upto)), o .1 ∙ l .one e is .1);

@@ -8,9 +8,9 @@ use native.Mathlib.Omega.{arith}
 use lib.ListN.{length, set, length-set}
 use Rattle.sums.specs.At.{Stored, store}
 use Rattle.sums.specs.Each.{same-or-not, less-or-not}
-use Rattle.planrow.specs.State.{at, LatestBelow, Chained}
+use Rattle.planrow.specs.State.{at, LatestBelow, EndsAt, Chained}
 use Rattle.planrow.specs.Joining.{Joins, Above}
-use Rattle.planrow.specs.LatestBelow.{At, stays, raised, own-next, spared, lowered}
+use Rattle.planrow.specs.LatestBelow.{stays, raised, own-next, spared, lowered}
 
 module _ {In In′ : ℕ → Type 0} {ends : ℕ → ℕ} {e : ℕ} (k : Joins In In′ e) {cells : ℕ} {head next : List ℕ} {v : ℕ} (node : v ≤ cells) (number : e < 256) (here : ends e ≡ v) where
   module _ (c : Chained cells In ends head next) where
@@ -92,7 +92,7 @@ module _ {In In′ : ℕ → Type 0} {ends : ℕ → ℕ} {e : ℕ} (k : Joins I
         to-e = omega (arith, b .last, c .nexts r (b .link) .last e (b .above) (k .own, here ∙ sym (b .end-at)))
 
         -- no other link leads to e
-        other : (j : ℕ) → (j ≡ r → ⊥) → In′ j → at next j ≡ suc e → LatestBelow (At In′ ends (ends j)) j (at next j) → ⊥
+        other : (j : ℕ) → (j ≡ r → ⊥) → In′ j → at next j ≡ suc e → LatestBelow (EndsAt In′ ends (ends j)) j (at next j) → ⊥
         other j n i q l =
             let same : ends j ≡ v = sym (l .one e q .1) ∙ here in
             ⊎-elim

@@ -7,7 +7,7 @@ use Prim.Native.Nat.{ℕ, suc, _+_, _-_, _≤_, _<_}
 use native.Mathlib.Omega.{arith}
 use lib.ListN.{length, set}
 use Rattle.sums.specs.Each.{same-or-not}
-use Rattle.planrow.specs.State.{at, Flagged}
+use Rattle.planrow.specs.State.{at, Flagged, EndsAt}
 use Rattle.planrow.specs.Joining.{Joins, Moves, Before, After, Moved, CanFollow, Above}
 use Rattle.planrow.specs.Link.{put-first, put-after, take-first, take-after}
 
@@ -38,7 +38,7 @@ module _ {next : List ℕ} {j e : ℕ} (w : CanFollow next j e) where
 
 module _ {head next : List ℕ} {v e : ℕ} (w : Moves head next v e) where
   -- the first link is above e: the chain can be followed from it
-  first-link : suc e < at head v → Flagged (w .side) (w .t) (w .kept) (at head v - 1) × (w .ends (at head v - 1) ≡ v)
+  first-link : suc e < at head v → EndsAt (Before w) (w .ends) v (at head v - 1)
   first-link far = w .chained .heads v (w .node) .one (at head v - 1) (omega arith)
 
   pub follows : suc e < at head v → CanFollow next (at head v - 1) e

@@ -5,8 +5,9 @@ use mathlib.Core.List.{List}
 use mathlib.Core.Path.{_≡_, refl}
 use Prim.Native.Nat.{ℕ, suc, _≤_, _<_}
 use native.Mathlib.Omega.{arith}
-use lib.ListN.{replicate, getD-replicate}
+use lib.ListN.{replicate}
 use lib.IntN.{ℤ}
+use Rattle.sums.specs.At.{zeros}
 use Rattle.flow.specs.Certificate.{empty-balanced}
 use Rattle.planrow.specs.Fewer.{proper-fewer, below-fewer}
 use Rattle.planrow.specs.State.{at, Flagged, Chained, Links, links, Chains, Stepped, Standing, CanPlan, CanInsert}
@@ -18,10 +19,10 @@ pub record Planning (limit : ℕ → ℕ) (count cells t : ℕ) (lo hi : List �
   pub chains : Chains cells t (at lo) (at hi) kept ls
 
 -- with no candidate yet every chain is empty
-no-chain : {cells : ℕ} (side : Bool) (kept : List Bool) (ends : ℕ → ℕ) (next : List ℕ) → cells ≤ 127 → Chained cells (Flagged side 0 kept) ends (replicate 128 0) next
-no-chain side kept ends next small = record {
+no-chain : {cells : ℕ} (side : Bool) (kept : List Bool) (ends : ℕ → ℕ) (next : List ℕ) → Chained cells (Flagged side 0 kept) ends (replicate 128 0) next
+no-chain side kept ends next = record {
   few = λ i o. absurd (omega (arith, o .0));
-  heads = λ v l. rw (getD-replicate {A = ℕ} 128 v 0 0 (omega arith)) (record { upto = omega arith; one = λ i q. absurd (omega arith); last = λ i h o. absurd (omega (arith, o .0 .0)) });
+  heads = λ v l. rw (zeros 128 v) (record { upto = omega arith; one = λ i q. absurd (omega arith); last = λ i h o. absurd (omega (arith, o .0 .0)) });
   nexts = λ j o. absurd (omega (arith, o .0));
 }
 
@@ -34,7 +35,7 @@ module _ {cells count : ℕ} {lo hi : List ℕ} {cost : List ℤ} {limit : List 
       balanced = empty-balanced (λ j l. refl) (stepped .rises) (stepped .level);
       dists = record { not-above = λ v l. stepped .not-above v (omega arith); upto = λ v l. omega (arith, stepped .upto v (omega arith)) };
     };
-    chains = record { dropped = no-chain false kept (at lo) next (p .cells-upto); held = no-chain true kept (at hi) next′ (p .cells-upto) };
+    chains = record { dropped = no-chain false kept (at lo) next; held = no-chain true kept (at hi) next′ };
   }
 
   module _ {t : ℕ} {kept : List Bool} {room : List ℕ} {dist : List ℤ} {ls : Links}

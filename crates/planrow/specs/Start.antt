@@ -5,18 +5,18 @@ use Prim.Native.Nat.{ℕ, suc, _+_, _≤_, _<_}
 use native.Mathlib.Omega.{arith}
 use lib.ListN.{length, set, length-set}
 use Rattle.sums.specs.At.{Stored, store}
-use Rattle.sums.specs.Filled.{stored}
-use Rattle.planrow.specs.State.{at, Fresh}
+use Rattle.sums.specs.Filled.{Filled, filled-none, filled-more}
+use Rattle.planrow.specs.State.{Fresh}
 
 pub record LaidOut (cells most v : ℕ) (label rank : List ℕ) : Type 0 where
   pub reach : v ≤ suc cells
   pub labels : length label ≡ 128
   pub ranks : length rank ≡ 128
-  pub far : (w : ℕ) → w < v → at label w ≡ most
-  pub still : (w : ℕ) → w < v → at rank w ≡ 0
+  pub far : Filled (λ w. most) v label
+  pub still : Filled (λ w. 0) v rank
 
 pub laid-none : {cells most : ℕ} {label rank : List ℕ} → length label ≡ 128 → length rank ≡ 128 → LaidOut cells most 0 label rank
-laid-none labels ranks = record { reach = omega arith; labels = labels; ranks = ranks; far = λ w h. absurd (omega arith); still = λ w h. absurd (omega arith) }
+laid-none labels ranks = record { reach = omega arith; labels = labels; ranks = ranks; far = filled-none _ _; still = filled-none _ _ }
 
 module _ {cells most v : ℕ} {label rank : List ℕ} (small : cells ≤ 127) (l : LaidOut cells most v label rank) where
   pub laid-more : v ≤ cells → LaidOut cells most (v + 1) (set label v most) (set rank v 0)
@@ -24,15 +24,15 @@ module _ {cells most v : ℕ} {label rank : List ℕ} (small : cells ≤ 127) (l
     reach = omega arith;
     labels = length-set label v most ∙ l .labels;
     ranks = length-set rank v 0 ∙ l .ranks;
-    far = stored (λ x. x) (λ w. most) label 0 (l .far) (omega (arith, l .labels)) most refl;
-    still = stored (λ x. x) (λ w. 0) rank 0 (l .still) (omega (arith, l .ranks)) 0 refl;
+    far = filled-more most (l .far) (omega (arith, l .labels)) refl;
+    still = filled-more 0 (l .still) (omega (arith, l .ranks)) refl;
   }
 
   pub laid-out : {b : ℕ} → cells < v → b ≤ cells → Fresh cells b most (set label b 0) rank
   laid-out {b} past inside = record {
     root = rooted .here b refl;
-    others = λ w i n. rooted .elsewhere w n ∙ l .far w (omega arith);
-    still = λ w i. l .still w (omega arith);
+    others = λ w i n. rooted .elsewhere w n ∙ l .far .is w (omega arith);
+    still = λ w i. l .still .is w (omega arith);
   }
     where
       rooted : Stored 0 label b 0 (set label b 0)

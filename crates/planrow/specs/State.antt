@@ -72,12 +72,16 @@ pub record LatestBelow (One : ℕ → Type 0) (bound p : ℕ) : Type 0 where
   pub one : (i : ℕ) → p ≡ suc i → One i
   pub last : (i : ℕ) → i < bound → One i → i < p
 
+-- one of these, with its end at node v
+abbrev pub EndsAt : (ℕ → Type 0) → (ℕ → ℕ) → ℕ → ℕ → Type 0
+EndsAt In ends v i = In i × (ends i ≡ v)
+
 -- Some candidates by one of their ends, latest first: head v is 1 past the latest that has its end at node v, next j is 1 past the latest before j
 -- with the same end; 0 is none.
 pub record Chained (cells : ℕ) (In : ℕ → Type 0) (ends : ℕ → ℕ) (head next : List ℕ) : Type 0 where
   pub few : (i : ℕ) → In i → i < 256
-  pub heads : (v : ℕ) → v ≤ cells → LatestBelow (λ i. In i × (ends i ≡ v)) 256 (at head v)
-  pub nexts : (j : ℕ) → In j → LatestBelow (λ i. In i × (ends i ≡ ends j)) j (at next j)
+  pub heads : (v : ℕ) → v ≤ cells → LatestBelow (EndsAt In ends v) 256 (at head v)
+  pub nexts : (j : ℕ) → In j → LatestBelow (EndsAt In ends (ends j)) j (at next j)
 
 -- the arrays of the chains by first node, and of those by last
 pub record Links : Type 0 where

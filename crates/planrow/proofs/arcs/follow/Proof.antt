@@ -3,7 +3,7 @@
 use mathlib.Core.Path.{_≡_}
 use Prim.Native.Nat.{ℕ, _-_, _<_}
 use native.Mathlib.Omega.{arith}
-use Rattle.planrow.specs.State.{at, Flagged, endsOf, marks}
+use Rattle.planrow.specs.State.{at, Flagged, EndsAt, endsOf, marks}
 use Rattle.planrow.specs.Relaxed.{read-cost}
 use Rattle.planrow.specs.Chains.{Followed, begun, followed, far-inside, small, link-lacks, link-done}
 use Rattle.planrow.proofs.arcs.follow.Statement.{statement}
@@ -21,7 +21,7 @@ abbrev link : tie.In-loop Inv-loop μ-loop → ℕ
 link c = c .before .loop .i - 1
 
 -- it is one of the side, and its arc starts at u
-here : (c : tie.In-loop Inv-loop μ-loop) → let a = c .before .before .before .args in Flagged (a .side) (a .t) (a .kept .now) (link c) × (at (endsOf (a .side) (a .lo .now) (a .hi .now)) (link c) ≡ a .u)
+here : (c : tie.In-loop Inv-loop μ-loop) → let a = c .before .before .before .args in EndsAt (Flagged (a .side) (a .t) (a .kept .now)) (at (endsOf (a .side) (a .lo .now) (a .hi .now))) (a .u) (link c)
 here c = c .before .loop .inv .here (link c) (omega arith)
 
 -- it has its place in the arrays

@@ -8,7 +8,7 @@ use lib.ListN.{length}
 use Rattle.signed.specs.Bits.{known}
 use Rattle.planrow.specs.State.{at}
 use Rattle.planrow.specs.Flags.{entered-kept, entered-dropped}
-use Rattle.planrow.specs.Inserting.{gainIn, first-in, inside, ready, gains-read, gain-read, gain-upto, kept-at-once, dropped-unasked, dropped-after, walkable, kept-by-walk, chains-walked}
+use Rattle.planrow.specs.Inserting.{gainIn, first-inside, inside, ready, gains-read, gain-read, gain-upto, kept-at-once, dropped-unasked, dropped-after, walkable, kept-by-walk, chains-walked}
 use Rattle.planrow.proofs.insert.insert.Statement.{statement}
 use Rattle.planrow.proofs.insert.insert.Tie as tie
 
@@ -30,7 +30,7 @@ long s = s .flags2 .given .0
 
 -- the candidate's ends are nodes
 first-node : (s : tie.Start) → at (s .args .lo .now) (s .args .t) < 128
-first-node s = omega (arith, first-in (s .pre), s .pre .cells-upto)
+first-node s = omega (arith, first-inside (s .pre), s .pre .cells-upto)
 
 last-node : (s : tie.Start) → at (s .args .hi .now) (s .args .t) < 128
 last-node s = omega (arith, inside (s .pre), s .pre .cells-upto)
@@ -71,7 +71,7 @@ gain-of-requires c κs =
     (known _ (c .before .before .gain-of-arg .given)) (known _ (c .before .gain-of-arg2 .given)) (known _ (c .gain-of-arg3 .given))
 
 enter-requires : tie.Need-enter-requires
-enter-requires c κs = let p = entry (c .before .before .before .before) .pre in ((p .cells-upto, p .t-upto, first-in p), p .chains .dropped)
+enter-requires c κs = let p = entry (c .before .before .before .before) .pre in ((p .cells-upto, p .t-upto, first-inside p), p .chains .dropped)
 
 returns : tie.Need-returns
 returns c =
@@ -103,7 +103,7 @@ returns-2 c =
 search-requires : tie.Need-search-requires
 search-requires c κs =
     let i = c .before .before .before .before .before .before .before .before .before .before .before .before .before .before .before .before in let g = i .before in let p = entry g .pre in
-    (ready p, (p .chains, (first-in p, inside p, omega (arith, i .if1 .left), gain-small g)))
+    (ready p, (p .chains, (first-inside p, inside p, omega (arith, i .if1 .left), gain-small g)))
 
 mul-near : tie.Need-mul-near
 mul-near c = omega (arith, first-node (entry (gained (c .before))))
@@ -143,7 +143,7 @@ deepen-requires-2 : tie.Need-deepen-requires-2
 deepen-requires-2 c κs = let g = gained (c .before .before .before) in let p = entry g .pre in ((p .cells-upto, gain-small g), ready p .dists)
 
 enter-requires-4 : tie.Need-enter-requires-4
-enter-requires-4 c κs = let p = entry (gained (c .before .before .before .before .before .before .before)) .pre in ((p .cells-upto, p .t-upto, first-in p), p .chains .dropped)
+enter-requires-4 c κs = let p = entry (gained (c .before .before .before .before .before .before .before)) .pre in ((p .cells-upto, p .t-upto, first-inside p), p .chains .dropped)
 
 returns-4 : tie.Need-returns-4
 returns-4 c =
