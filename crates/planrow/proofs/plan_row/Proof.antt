@@ -24,7 +24,10 @@ loop-holds c = planning-starts (c .before .before .before .pre) _ _ _ (c .begin 
 
 -- ---- one turn
 
--- from the turn to the entry
+-- from where `insert` is asked back to the turn, and from the turn to the entry
+abbrev turn : tie.After-list Inv-loop μ-loop → tie.In-loop Inv-loop μ-loop
+turn i = i .before .before .before .before .before .before .before .before .before .before .before .before
+
 abbrev entry : tie.In-loop Inv-loop μ-loop → tie.Start Inv-loop μ-loop
 entry k = k .before .before .before .before .before
 
@@ -34,17 +37,17 @@ can-insert : (k : tie.In-loop Inv-loop μ-loop) → let a = entry k .args in let
 can-insert k = insertable (entry k .pre) (k .before .loop .inv) (k .loop-test .taken)
 
 insert-requires : tie.Need-insert-requires Inv-loop μ-loop
-insert-requires c κs = can-insert (c .before .before .before .before .before .before .before .before .before .before .before .before)
+insert-requires c κs = can-insert (turn c)
 
 add-t : tie.Need-add-t Inv-loop μ-loop
-add-t c = omega (arith, can-insert (c .before .before .before .before .before .before .before .before .before .before .before .before .before) .t-upto)
+add-t c = omega (arith, can-insert (turn (c .before)) .t-upto)
 
 loop-less : tie.Need-loop-less Inv-loop μ-loop
-loop-less c = omega (arith, c .before .before .before .before .before .before .before .before .before .before .before .before .before .loop-test .taken)
+loop-less c = omega (arith, turn (c .before) .loop-test .taken)
 
 loop-again : tie.Need-loop-again Inv-loop μ-loop
 loop-again c =
-    let k = c .before .before .before .before .before .before .before .before .before .before .before .before .before in
+    let k = turn (c .before) in
     rw add-one (planning-goes-on (entry k .pre) (k .before .loop .inv) (k .loop-test .taken) (c .insert .ensures .0) (c .insert .ensures .1))
 
 returns : tie.Need-returns Inv-loop μ-loop
