@@ -1,14 +1,13 @@
 -- Candidates set in an order one after another, and what is kept put back by number: one turn more copies one. Assumes nothing.
 use mathlib.Core.Path.{_≡_, refl, _∙_}
-use mathlib.Core.Bool.{Bool, false}
+use mathlib.Core.Bool.{Bool}
 use mathlib.Core.List.{List}
 use Prim.Native.Nat.{ℕ, _+_, _<_}
 use native.Mathlib.Omega.{arith}
 use lib.ListN.{length, getD, set, length-set}
 use lib.IntN.{ℤ, pos}
-use Rattle.sums.specs.At.{at}
-use Rattle.sums.specs.Filled.{stored, filled-none, filled-more}
-use Rattle.planrow.specs.State.{flag}
+use Rattle.sums.specs.At.{at, flag}
+use Rattle.sums.specs.Filled.{filled-none, filled-more}
 use Rattle.cells.specs.Reordered.{Arranged, PutBack}
 
 -- n candidates are set, in arrays of 256 places
@@ -22,7 +21,7 @@ pub arranging-none :
     (order lo hi : List ℕ) (cost : List ℤ) (los his : List ℕ) (costs : List ℤ)
     → length los ≡ 256 → length his ≡ 256 → length costs ≡ 256 → Arranging 0 order lo hi cost los his costs
 arranging-none order lo hi cost los his costs l h c = record {
-  so-far = record { lower = filled-none _ los; upper = filled-none _ his; paid = λ i l. absurd (omega arith) };
+  so-far = record { lower = filled-none _ los; upper = filled-none _ his; paid = filled-none _ costs };
   lo-places = l;
   hi-places = h;
   cost-places = c;
@@ -36,7 +35,7 @@ arranging-more {n} {order} {lo} {hi} {cost} {los} {his} {costs} was l = record {
   so-far = record {
     lower = filled-more _ (was .so-far .lower) (omega arith) refl;
     upper = filled-more _ (was .so-far .upper) (omega arith) refl;
-    paid = stored (λ z. z) (λ i. getD cost (at order i) (pos 0)) costs (pos 0) (was .so-far .paid) (omega arith) _ refl;
+    paid = filled-more _ (was .so-far .paid) (omega arith) refl;
   };
   lo-places = length-set los n _ ∙ was .lo-places;
   hi-places = length-set his n _ ∙ was .hi-places;
@@ -49,10 +48,10 @@ pub record PuttingBack (n : ℕ) (place : List ℕ) (keeps kept : List Bool) : T
   pub places : length kept ≡ 256
 
 pub putting-none : (place : List ℕ) (keeps kept : List Bool) → length kept ≡ 256 → PuttingBack 0 place keeps kept
-putting-none place keeps kept all = record { so-far = record { is = λ r l. absurd (omega arith) }; places = all }
+putting-none place keeps kept all = record { so-far = filled-none _ kept; places = all }
 
 pub putting-more : {n : ℕ} {place : List ℕ} {keeps kept : List Bool} → PuttingBack n place keeps kept → n < 256 → PuttingBack (n + 1) place keeps (set kept n (flag keeps (at place n)))
 putting-more {n} {place} {keeps} {kept} was l = record {
-  so-far = record { is = stored (λ t. t) (λ r. flag keeps (at place r)) kept false (was .so-far .is) (omega arith) _ refl };
+  so-far = filled-more _ (was .so-far) (omega arith) refl;
   places = length-set kept n _ ∙ was .places;
 }

@@ -8,10 +8,9 @@ use native.Mathlib.Omega.{arith}
 use borrow.Author.Count.{below-more}
 use borrow.Author.Tests.{eqb-true, eq-eqb}
 use lib.ListN.{length, set, length-set, List·getD-append}
-use lib.Seq.{getD-set-same, getD-set-other}
 use lib.IntN.{ℤ}
 use lib.Dec.{eqb}
-use Rattle.sums.specs.At.{at}
+use Rattle.sums.specs.At.{at, Stored, store}
 use Rattle.sums.specs.Each.{some, some-at, some-of, of-yes, decided}
 use Rattle.sums.specs.Filled.{Filled}
 use Rattle.cells.specs.Steps.{Falling}
@@ -43,10 +42,13 @@ placed-more {f} {cells} {n} {place} {before} {now} v to was l e = record {
   as-long = length-set now (at place n) v ∙ was .as-long;
   is =
       below-more (λ (j : ℕ). at (set now (at place n) v) (at place j) ≡ f j) n
-      (λ j h. getD-set-other now (at place n) (at place j) v 0 (λ q. omega (arith, to .own j n (omega arith) l q)) ∙ was .is j h)
-      (getD-set-same now (at place n) v 0 (omega (arith, to .in-list n l, was .as-long)) ∙ e);
-  others = λ p h. getD-set-other now (at place n) p v 0 (λ q. h n (omega arith) (sym q)) ∙ was .others p (λ j k. h j (omega arith));
+      (λ j h. more .elsewhere (at place j) (λ q. omega (arith, to .own j n (omega arith) l q)) ∙ was .is j h)
+      (more .here (at place n) refl ∙ e);
+  others = λ p h. more .elsewhere p (λ q. h n (omega arith) (sym q)) ∙ was .others p (λ j k. h j (omega arith));
 }
+  where
+    more : Stored 0 now (at place n) v (set now (at place n) v)
+    more = store 0 now (at place n) v (omega (arith, to .in-list n l, was .as-long))
 
 -- ---- prices that are not too high
 

@@ -24,8 +24,8 @@ module _
     can-plan f =
         record {
           cells-upto = omega (arith, can .cells-upto);
-          count-upto = can .profits-are .few;
+          count-upto = can .profits-in .few;
           proper = real-intervals;
-          costs = record { not-above = laid .not-above; upto = λ i l. omega (arith, laid .profit i l, can .profits-are .upto i l) };
+          costs = record { not-above = laid .not-above; upto = λ i l. omega (arith, laid .profit i l, can .profits-in .upto i l) };
           limits = λ j l. omega (arith, f .is j l, can .limits-upto j l);
         }

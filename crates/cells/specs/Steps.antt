@@ -22,7 +22,7 @@ pub record Candidates (n : ℕ) (a b profits lo hi : List ℕ) (cost : List ℤ)
 -- a row of at most 63 cells that the requests lie on, each over some cell
 pub record CanSolve (cells count : ℕ) (limits a b profits : List ℕ) : Type 0 where
   pub cells-upto : cells ≤ 63
-  pub profits-are : NumbersUpto 1000000 count profits
+  pub profits-in : NumbersUpto 1000000 count profits
   pub a-node : (i : ℕ) → i < count → at a i ≤ cells
   pub b-node : (i : ℕ) → i < count → at b i ≤ cells
   pub ends-differ : (i : ℕ) → i < count → at a i ≡ at b i → ⊥

@@ -7,7 +7,7 @@ use Prim.Native.Nat.{ℕ, suc, _+_, _-_, _*_, _^_, _/_, _%_, _≤_, _<_}
 use native.Mathlib.Nat.{pow-suc, div-one, div-div-eq-div-mul, mul-le-mul-left}
 use native.Mathlib.Omega.{arith}
 use lib.ListN.{length, set, length-set}
-use lib.Seq.{getD-set-same, getD-set-other}
+use Rattle.sums.specs.At.{Stored, store}
 use Rattle.sums.specs.Each.{less-or-not}
 use Rattle.book.specs.Bytes.{byte}
 use Rattle.book.specs.Columns.{at}
@@ -46,17 +46,17 @@ putting-more {offset} {w} {left} {value} {rest} {before} {out} some room was =
       put =
           record {
             length-same = length-set out (offset + (left - 1)) (rest % 256) ∙ was .put .length-same;
-            bytes = λ k j l e. ⊎-elim (λ m. let last : k ≡ left - 1 = omega arith in rw last (written j (omega arith))) (λ m. other (offset + k) (λ z. omega arith) ∙ was .put .bytes k j m e) (less-or-not k left);
-            earlier = λ t h. other t (λ z. omega arith) ∙ was .put .earlier t (omega arith);
-            later = λ t h. other t (λ z. omega (arith, was .upto)) ∙ was .put .later t h;
+            bytes = λ k j l e. ⊎-elim (λ m. let last : k ≡ left - 1 = omega arith in rw last (written j (omega arith))) (λ m. put .elsewhere (offset + k) (λ z. omega arith) ∙ was .put .bytes k j m e) (less-or-not k left);
+            earlier = λ t h. put .elsewhere t (λ z. omega arith) ∙ was .put .earlier t (omega arith);
+            later = λ t h. put .elsewhere t (λ z. omega (arith, was .upto)) ∙ was .put .later t h;
           };
     }
   where
-    other : (t : ℕ) → (t ≡ (offset + (left - 1)) → ⊥) → byte (set out (offset + (left - 1)) (rest % 256)) t ≡ byte out t
-    other t h = getD-set-other out (offset + (left - 1)) t (rest % 256) 0 h
+    put : Stored 0 out (offset + (left - 1)) (rest % 256) (set out (offset + (left - 1)) (rest % 256))
+    put = store 0 out (offset + (left - 1)) (rest % 256) (omega (arith, was .upto, was .put .length-same))
 
     written : (j : ℕ) → left + j ≡ w → byte (set out (offset + (left - 1)) (rest % 256)) (offset + (left - 1)) ≡ value / 256 ^ j % 256
-    written j e = getD-set-same out (offset + (left - 1)) (rest % 256) 0 (omega (arith, was .put .length-same)) ∙ rw (was .rest-is j e)
+    written j e = put .here (offset + (left - 1)) refl ∙ rw (was .rest-is j e)
 
     further : {j : ℕ} (i : ℕ) → left + i ≡ w → j ≡ suc i → rest / 256 ≡ value / 256 ^ j
     further i e is = rw (is, was .rest-is i e) (div-div-eq-div-mul value (256 ^ i) 256 ∙ ap (λ (x : ℕ). value / x) (sym (pow-suc 256 i)))

@@ -12,7 +12,7 @@ use lib.Dec.{leb, ltb, eqb}
 use Rattle.sums.specs.At.{zeros, Stored, store}
 use Rattle.sums.specs.Between.{isBetween}
 use Rattle.sums.specs.Each.{less-or-not, same-or-not}
-use Rattle.sums.specs.Sums.{Σ, bit, bit-le, Σ-ext, Σ-add, Σ-most, Σ-zero}
+use Rattle.sums.specs.Sums.{Σ, bit, bit-le, Σ-ext, Σ-add, Σ-most, Σ-zero, same-one, same-none}
 use Rattle.sums.specs.Turns.{Σ-more}
 use Rattle.book.specs.Columns.{at}
 use Rattle.lawful.specs.Spans.{over, WithinSpans}
@@ -35,9 +35,6 @@ module _ {nodes : List ℕ} where
     pub tallied-more : at nodes i < 64 → Tallied (i + 1) nodes (set tally (at nodes i) (at tally (at nodes i) + 1))
     tallied-more small = record { long = length-set tally (at nodes i) (at tally (at nodes i) + 1) ∙ was .long; is = is }
       where
-        one : bit (eqb (at nodes i) (at nodes i)) ≡ 1
-        one = rw (eq-eqb (at nodes i) (at nodes i) refl)
-
         counted : Stored 0 tally (at nodes i) (at tally (at nodes i) + 1) (set tally (at nodes i) (at tally (at nodes i) + 1))
         counted = store 0 tally (at nodes i) (at tally (at nodes i) + 1) (omega (arith, was .long))
 
@@ -47,12 +44,11 @@ module _ {nodes : List ℕ} where
             here : v ≡ at nodes i → at (set tally (at nodes i) (at tally (at nodes i) + 1)) v ≡ Σ (i + 1) (λ j. bit (eqb (at nodes j) v))
             here q =
                 rw (counted .here v q, q)
-                (omega (arith, was .is (at nodes i) small, Σ-more i (λ j. bit (eqb (at nodes j) (at nodes i))), one))
+                (omega (arith, was .is (at nodes i) small, Σ-more i (λ j. bit (eqb (at nodes j) (at nodes i))), same-one (at nodes i) (at nodes i) refl))
 
             elsewhere : (v ≡ at nodes i → ⊥) → at (set tally (at nodes i) (at tally (at nodes i) + 1)) v ≡ Σ (i + 1) (λ j. bit (eqb (at nodes j) v))
             elsewhere ne =
-                let none : bit (eqb (at nodes i) v) ≡ 0 = rw (ne-eqb (at nodes i) v (λ q. ne (sym q))) in
-                rw (counted .elsewhere v ne) (omega (arith, was .is v l, Σ-more i (λ j. bit (eqb (at nodes j) v)), none))
+                rw (counted .elsewhere v ne) (omega (arith, was .is v l, Σ-more i (λ j. bit (eqb (at nodes j) v)), same-none (at nodes i) v (λ q. ne (sym q))))
 
 -- ---- from span to span
 

@@ -56,7 +56,7 @@ module _ {nodes count : ℕ} {limits a b profits : List ℕ} (w : LineColumns no
       let h = w .held in
       record {
         cells-upto = few-spans h;
-        profits-are = profits-in h;
+        profits-in = profits-in h;
         a-node = a-in h;
         b-node = b-in h;
         ends-differ = ends-differ h;
@@ -86,7 +86,7 @@ module _ {nodes count : ℕ} {limits a b profits : List ℕ} (w : LineColumns no
         at-cell = λ j l. record {
           near-not-above = s .standing .dists .not-above j (omega arith);
           far-not-above = s .standing .dists .not-above (suc j) (omega arith);
-          far-low = omega (arith, s .standing .dists .upto (suc j) (omega arith), can-solve .cells-upto, can-solve .profits-are .few);
+          far-low = omega (arith, s .standing .dists .upto (suc j) (omega arith), can-solve .cells-upto, can-solve .profits-in .few);
           falls = s .standing .balanced .deep .rises j l;
         };
       }
@@ -97,7 +97,7 @@ module _ {nodes count : ℕ} {limits a b profits : List ℕ} (w : LineColumns no
           let real = real-intervals can-solve (s .candidates) in
           record {
             cells-upto = omega (arith, can-solve .cells-upto);
-            count-upto = can-solve .profits-are .few;
+            count-upto = can-solve .profits-in .few;
             k-upto = omega (arith, its, w .held .line .sound .channels-upto);
             proper = record { some-cell = real .some-cell; in-row = real .in-row };
             fits = λ j l.
@@ -113,7 +113,7 @@ module _ {nodes count : ℕ} {limits a b profits : List ℕ} (w : LineColumns no
 
       module _ {k : ℕ} (its : k ≡ w .book .channels) {given : Given} {channels : List ℕ} (h : HandedOut (nodes - 1) count k lo hi keeps given channels) where
         pub channels-small : NumbersUpto 96 count channels
-        channels-small = record { few = can-solve .profits-are .few; upto = λ i l. omega (arith, h .upto i l, can-hand-out its .k-upto) }
+        channels-small = record { few = can-solve .profits-in .few; upto = λ i l. omega (arith, h .upto i l, can-hand-out its .k-upto) }
 
         -- ---- entries and prices as they are written
 

@@ -1,14 +1,13 @@
 -- Room on the cells between two nodes, or on the spans: seen to be there cell by cell, and taken cell by cell, so that the cells passed have one less and the
 -- others are as before. Assumes nothing.
-use mathlib.Core.Path.{_≡_}
+use mathlib.Core.Path.{_≡_, refl}
 use mathlib.Core.List.{List, [], _∷_}
 use mathlib.Core.Logic.{⊎-elim}
 use Prim.Native.Nat.{ℕ, zero, suc, _+_, _-_, _≤_, _<_, min}
 use native.Mathlib.Omega.{arith}
 use lib.ListN.{length, set}
-use lib.Seq.{getD-set-same, getD-set-other}
 use Rattle.sums.specs.Each.{same-or-not}
-use Rattle.sums.specs.At.{at}
+use Rattle.sums.specs.At.{at, Stored, store}
 use Rattle.sums.specs.Between.{between, between-none, between-join, at-most-one, only-one, no-other-between}
 
 -- every cell from a to i - 1 has room
@@ -56,8 +55,11 @@ module _ {a b i : ℕ} {room₀ room : List ℕ} (taken : TakenTo a b i room₀ 
   pub taken-next : TakenTo a b (i + 1) room₀ (set room i (at room i - 1))
   taken-next = record { past = omega (arith, taken .past); less = λ j. let m : min (i + 1) b ≡ i + 1 = omega arith in rw m (⊎-elim (here j) (other j) (same-or-not j i)) }
     where
+      less-here : Stored 0 room i (at room i - 1) (set room i (at room i - 1))
+      less-here = store 0 room i (at room i - 1) (inside room i taken-room)
+
       here : (j : ℕ) → j ≡ i → at (set room i (at room i - 1)) j + between a (i + 1) j ≡ at room₀ j
-      here j q = rw q (omega (arith, getD-set-same room i (at room i - 1) 0 (inside room i taken-room), taken-room, before i, one-more i, only-one i))
+      here j q = rw q (omega (arith, less-here .here i refl, taken-room, before i, one-more i, only-one i))
 
       other : (j : ℕ) → (j ≡ i → ⊥) → at (set room i (at room i - 1)) j + between a (i + 1) j ≡ at room₀ j
-      other j n = omega (arith, getD-set-other room i j (at room i - 1) 0 n, before j, one-more j, no-other-between i j n)
+      other j n = omega (arith, less-here .elsewhere j n, before j, one-more j, no-other-between i j n)

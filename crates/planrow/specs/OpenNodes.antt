@@ -6,22 +6,11 @@ use Prim.Native.Nat.{ℕ, suc, _+_, _≤_, _<_}
 use native.Mathlib.Omega.{arith}
 use lib.Dec.{eqb}
 use lib.ListN.{length, set}
-use borrow.Author.Tests.{eq-eqb, ne-eqb}
 use Rattle.sums.specs.At.{Stored, store}
 use Rattle.sums.specs.Each.{same-or-not}
-use Rattle.sums.specs.Sums.{Σ, bit, Σ-ext, Σ-add, Σ-only, Σ-most, bit-le, when-yes, when-no}
+use Rattle.sums.specs.Sums.{Σ, Σ-ext, Σ-add, Σ-only, Σ-most, bit-le, same, same-one, same-none}
 use Rattle.sums.specs.Pigeons.{Σ-least}
 use Rattle.planrow.specs.State.{at}
-
--- 1 where the two are the same, 0 where not
-abbrev pub same : ℕ → ℕ → ℕ
-same a b = bit (eqb a b)
-
-same-one : (a b : ℕ) → a ≡ b → same a b ≡ 1
-same-one a b q = when-yes (eqb a b) 1 (eq-eqb a b q)
-
-same-none : (a b : ℕ) → (a ≡ b → ⊥) → same a b ≡ 0
-same-none a b n = when-no (eqb a b) 1 (ne-eqb a b n)
 
 unfoldable pub openNodes : ℕ → List ℕ → ℕ
 openNodes cells rank = Σ (suc cells) (λ v. same (at rank v) 0)

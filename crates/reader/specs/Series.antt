@@ -9,10 +9,10 @@ use Prim.Native.Nat.{ℕ, _+_, _<_}
 use native.Mathlib.Omega.{arith}
 use borrow.Author.Count.{below-more}
 use borrow.Author.Tests.{eq-eqb}
-use lib.ListN.{getD, set}
+use lib.ListN.{set}
 use lib.Dec.{T, eqb, T-not}
 use Rattle.sums.specs.Each.{of-yes}
-use Rattle.sums.specs.Filled.{stored}
+use Rattle.sums.specs.Filled.{FilledBy, filled-none, filled-more}
 use Rattle.sums.specs.Vacant.{Vacant, vacant-more}
 use Rattle.records.specs.declared.Network.{Network}
 use Rattle.records.specs.declared.Refusal.{Refusal}
@@ -67,7 +67,7 @@ pub record Series (A : Type 0) : Type 0 where
 
 -- the first n entries are as they should be
 abbrev pub AllMeant : {A : Type 0} → Series A → List A → ℕ → Type 0
-AllMeant s l n = (i : ℕ) → i < n → getD l i (s .empty) ≡ s .wants i
+AllMeant s l n = FilledBy (s .empty) (s .wants) n l
 
 -- after n records
 pub record SoFar {A : Type 0} (s : Series A) (l : List A) (n : ℕ) : Type 0 where
@@ -83,14 +83,14 @@ pub record InList {A : Type 0} (s : Series A) (n : ℕ) (network : Network) (ans
 
 module _ {A : Type 0} (s : Series A) where
   pub so-far-none : (l : List A) → Vacant (s .empty) 0 (s .room) l → SoFar s l 0
-  so-far-none l e = record { got = λ i h. absurd (omega arith); filled = λ i h. absurd (omega arith); no-more = e }
+  so-far-none l e = record { got = λ i h. absurd (omega arith); filled = filled-none (s .wants) l; no-more = e }
 
   pub so-far-more :
       (l : List A) (n : ℕ) (v : A) → SoFar s l n → n < s .room → isGot (s .says n) ≡ true → v ≡ s .wants n → SoFar s (set l n v) (n + 1)
   so-far-more l n v p h e m =
       record {
         got = below-more _ n (p .got) e;
-        filled = stored (λ x. x) (s .wants) l (s .empty) (p .filled) (omega (arith, p .no-more .long)) v m;
+        filled = filled-more v (p .filled) (omega (arith, p .no-more .long)) m;
         no-more = vacant-more (p .no-more) v;
       }
 

@@ -53,7 +53,7 @@ limits-are :
     → spansIn f ≤ length limits
     → AllMeant (spanSeries f (channelsIn f)) limits (spansIn f)
     → take (spansIn f) limits ≡ table (spansIn f) (λ s. limitIn f (1 + s))
-limits-are f limits h p = sym (map-id (take (spansIn f) limits)) ∙ made-table (λ limit. limit) 0 (λ s. limitIn f (1 + s)) limits (spansIn f) h p
+limits-are f limits h p = sym (map-id (take (spansIn f) limits)) ∙ made-table (λ limit. limit) 0 (λ s. limitIn f (1 + s)) limits (spansIn f) h (p .is)
 
 request-part : (f : List ℕ) (b i : ℕ) → plain (requestRead (drop (start b) f) i) ≡ requestOf f (b + i)
 unfolding requestOf
@@ -65,7 +65,7 @@ requests-are :
     → AllMeant (requestSeries (drop (start b) f) b (nodesIn f)) requests n
     → map plain (take n requests) ≡ table n (λ i. requestOf f (b + i))
 requests-are f b n requests h p =
-    made-table plain noRequest (λ i. requestOf f (b + i)) requests n h (λ i k. ap plain (p i k) ∙ request-part f b i)
+    made-table plain noRequest (λ i. requestOf f (b + i)) requests n h (λ i k. ap plain (p .is i k) ∙ request-part f b i)
 
 book-is :
     (f limits : List ℕ) (requests : List Request)
@@ -153,7 +153,7 @@ module _ (f : List ℕ) (network : Network) (n : ℕ) (so-far : Begun f network 
                 ∙ sym (all-clean f head all-spans (turn .1)));
             refusing = λ refusal r. let z : _≡_ {A = ℕ} 0 1 = cc in absurd (omega arith);
             counted = o .within;
-            numbered = λ i h. ap (λ (q : Request). q .number) (requests-read .inList .filled (ap accepted a) i (omega (arith, all)));
+            numbered = λ i h. ap (λ (q : Request). q .number) (requests-read .inList .filled (ap accepted a) .is i (omega (arith, all)));
             no-more-requests = requests-end;
             no-more-limits = λ t' a'. let same : t' ≡ networkIn f = cc (turn .0) in rw same limits-end;
           }

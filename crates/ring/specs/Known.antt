@@ -6,8 +6,7 @@ use mathlib.Core.Path.{_≡_, sym, ap, _∙_}
 use Prim.Native.Nat.{ℕ, _+_, _-_, _≤_, _<_}
 use native.Mathlib.Omega.{arith}
 use lib.ListN.{length, set, replicate}
-use lib.Seq.{getD-set-same, getD-set-other}
-use Rattle.sums.specs.At.{zeros}
+use Rattle.sums.specs.At.{zeros, store}
 use Rattle.sums.specs.Each.{same-or-not}
 use Rattle.sums.specs.Filled.{Filled}
 use Rattle.book.specs.Columns.{at}
@@ -27,12 +26,9 @@ low-none = record { upto = λ s. omega (arith, zeros 64 s) }
 
 -- one price more that is not too high
 pub low-more : {prices : List ℕ} {j v : ℕ} → j < length prices → v ≤ 1000000 → LowPrices prices → LowPrices (set prices j v)
-low-more {prices} {j} {v} l h was = record {
-  upto = λ s. ⊎-elim
-      (λ (q : j ≡ s). rw (← q, getD-set-same prices j v 0 l) h)
-      (λ (q : j ≡ s → ⊥). rw (getD-set-other prices j s v 0 (λ e. q (sym e))) (was .upto s))
-      (same-or-not j s);
-}
+low-more {prices} {j} {v} l h was =
+    let p = store 0 prices j v l in
+    record { upto = λ s. ⊎-elim (λ q. rw (p .here s q) h) (λ n. rw (p .elsewhere s n) (was .upto s)) (same-or-not s j) }
 
 -- no two places of the line are the same span of the ring
 pub ring-places :

@@ -15,7 +15,7 @@ use Rattle.rules.specs.Cuts.{steps, spanAt, cutLine}
 use Rattle.lines.specs.Ways.{b-lower, line-way}
 use Rattle.rings.specs.Ring.{Ring}
 use Rattle.rings.specs.Turn.{StepsTo, steps-lead, place-below, span-below, place-of-span}
-use Rattle.rings.specs.CutLine.{ring-spans, cut-count, cut-a, cut-b, cut-line}
+use Rattle.rings.specs.CutLine.{inside, cut-count, cut-a, cut-b, cut-line}
 
 -- ---- what `upward` means
 
@@ -111,9 +111,6 @@ unfolding crosses
 crosses-2 book i s = refl
 
 module _ {book : Book} (on : Ring book) (j : ℕ) (cut : j < spans book) (i w : ℕ) (below : i < count book) (exists : wayExists (cutLine book j) i w ≡ true) where
-  inside : j < book .nodes
-  inside = omega (arith, ring-spans on)
-
   -- the way that exists on the line goes up from the end that comes first on it
   which : ((w ≡ 1) × (endA (cutLine book j) i < endB (cutLine book j) i)) ⊎ ((w ≡ 2) × (endB (cutLine book j) i < endA (cutLine book j) i))
   unfolding wayFrom lineWay
@@ -135,14 +132,14 @@ module _ {book : Book} (on : Ring book) (j : ℕ) (cut : j < spans book) (i w : 
   crosses-place t h = ⊎-elim one two which
     where
       one : (w ≡ 1) × (endA (cutLine book j) i < endB (cutLine book j) i) → crosses book i w (spanAt (book .nodes) j t) ≡ crosses (cutLine book j) i w t
-      one x = rw (x .0, crosses-1 book i (spanAt (book .nodes) j t), crosses-1 (cutLine book j) i t, cut-a on j i below, cut-b on j i below) (up-the-line (book .nodes) j (endA book i) (endB book i) inside (on .sound .a-node i below) (on .sound .b-node i below) (rw (cut-a on j i below, cut-b on j i below) at (x .1)) t h)
+      one x = rw (x .0, crosses-1 book i (spanAt (book .nodes) j t), crosses-1 (cutLine book j) i t, cut-a on j i below, cut-b on j i below) (up-the-line (book .nodes) j (endA book i) (endB book i) (inside on j cut) (on .sound .a-node i below) (on .sound .b-node i below) (rw (cut-a on j i below, cut-b on j i below) at (x .1)) t h)
 
       two : (w ≡ 2) × (endB (cutLine book j) i < endA (cutLine book j) i) → crosses book i w (spanAt (book .nodes) j t) ≡ crosses (cutLine book j) i w t
-      two x = rw (x .0, crosses-2 book i (spanAt (book .nodes) j t), crosses-2 (cutLine book j) i t, cut-a on j i below, cut-b on j i below) (up-the-line (book .nodes) j (endB book i) (endA book i) inside (on .sound .b-node i below) (on .sound .a-node i below) (rw (cut-a on j i below, cut-b on j i below) at (x .1)) t h)
+      two x = rw (x .0, crosses-2 book i (spanAt (book .nodes) j t), crosses-2 (cutLine book j) i t, cut-a on j i below, cut-b on j i below) (up-the-line (book .nodes) j (endB book i) (endA book i) (inside on j cut) (on .sound .b-node i below) (on .sound .a-node i below) (rw (cut-a on j i below, cut-b on j i below) at (x .1)) t h)
 
   pub not-across-cut : crosses book i w j ≡ false
   not-across-cut =
       ⊎-elim
-      (λ x. rw (x .0, crosses-1 book i j) (not-over-the-cut (book .nodes) j (endA book i) (endB book i) inside (on .sound .a-node i below) (on .sound .b-node i below) (rw (cut-a on j i below, cut-b on j i below) at (x .1))))
-      (λ x. rw (x .0, crosses-2 book i j) (not-over-the-cut (book .nodes) j (endB book i) (endA book i) inside (on .sound .b-node i below) (on .sound .a-node i below) (rw (cut-a on j i below, cut-b on j i below) at (x .1))))
+      (λ x. rw (x .0, crosses-1 book i j) (not-over-the-cut (book .nodes) j (endA book i) (endB book i) (inside on j cut) (on .sound .a-node i below) (on .sound .b-node i below) (rw (cut-a on j i below, cut-b on j i below) at (x .1))))
+      (λ x. rw (x .0, crosses-2 book i j) (not-over-the-cut (book .nodes) j (endB book i) (endA book i) (inside on j cut) (on .sound .b-node i below) (on .sound .a-node i below) (rw (cut-a on j i below, cut-b on j i below) at (x .1))))
       which

@@ -27,6 +27,9 @@ module _ {book : Book} (on : Ring book) where
   ring-spans = ap (λ (s : ℕ). cond (eqb s 2) (book .nodes) (book .nodes - 1)) (on .ring)
 
   module _ (j : ℕ) where
+    pub inside : j < spans book → j < book .nodes
+    inside cut = omega (arith, ring-spans)
+
     pub cut-spans : spans (cutLine book j) ≡ book .nodes - 1
     unfolding spans spansOf cutLine
     cut-spans = refl
@@ -69,11 +72,11 @@ module _ {book : Book} (on : Ring book) where
                 channels-from = s .channels-from;
                 channels-upto = s .channels-upto;
                 limits-count = length-table (book .nodes - 1) _ ∙ sym cut-spans;
-                limit-upto = λ t h. let l : t + 1 < book .nodes = omega (arith, cut-spans) in omega (arith, cut-limit t l, s .limit-upto (spanAt (book .nodes) j t) (omega (arith, span-below (book .nodes) j inside t l, ring-spans)));
+                limit-upto = λ t h. let l : t + 1 < book .nodes = omega (arith, cut-spans) in omega (arith, cut-limit t l, s .limit-upto (spanAt (book .nodes) j t) (omega (arith, span-below (book .nodes) j (inside cut) t l, ring-spans)));
                 count-upto = omega (arith, cut-count, s .count-upto);
-                a-node = λ i h. let l = known i h in omega (arith, cut-a i l, place-below (book .nodes) j inside (endA book i) (s .a-node i l));
-                b-node = λ i h. let l = known i h in omega (arith, cut-b i l, place-below (book .nodes) j inside (endB book i) (s .b-node i l));
-                ends-differ = λ i h e. let l = known i h in s .ends-differ i l (places-differ (book .nodes) j inside (endA book i) (endB book i) (s .a-node i l) (s .b-node i l) (sym (cut-a i l) ∙ e ∙ cut-b i l));
+                a-node = λ i h. let l = known i h in omega (arith, cut-a i l, place-below (book .nodes) j (inside cut) (endA book i) (s .a-node i l));
+                b-node = λ i h. let l = known i h in omega (arith, cut-b i l, place-below (book .nodes) j (inside cut) (endB book i) (s .b-node i l));
+                ends-differ = λ i h e. let l = known i h in s .ends-differ i l (places-differ (book .nodes) j (inside cut) (endA book i) (endB book i) (s .a-node i l) (s .b-node i l) (sym (cut-a i l) ∙ e ∙ cut-b i l));
                 profit-from = λ i h. let l = known i h in omega (arith, cut-profit i l, s .profit-from i l);
                 profit-upto = λ i h. let l = known i h in omega (arith, cut-profit i l, s .profit-upto i l);
               };
@@ -81,9 +84,6 @@ module _ {book : Book} (on : Ring book) where
       where
         s : Sound book
         s = on .sound
-
-        inside : j < book .nodes
-        inside = omega (arith, ring-spans)
 
         known : (i : ℕ) → i < count (cutLine book j) → i < count book
         known i h = omega (arith, cut-count)

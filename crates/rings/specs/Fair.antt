@@ -17,7 +17,7 @@ use Rattle.rules.specs.Cuts.{steps, spanAt, cutLine}
 use Rattle.lines.specs.Obeys.{Fair, obeys-fair, fair-obeys}
 use Rattle.rings.specs.Ring.{Ring}
 use Rattle.rings.specs.Turn.{span-of-place}
-use Rattle.rings.specs.CutLine.{ring-spans, cut-spans, cut-count, cut-limit, cut-profit}
+use Rattle.rings.specs.CutLine.{ring-spans, inside, cut-spans, cut-count, cut-limit, cut-profit}
 use Rattle.rings.specs.Crossing.{crosses-place, not-across-cut}
 
 -- the sums over the same requests, whatever their number is called
@@ -46,9 +46,6 @@ module _ {book : Book} (on : Ring book) (j : ℕ) where
   ring-way i w e = loosened (eqb w 1) (eqb w 2) (isRing book) _ _ _ _ (eq-eqb _ _ (on .ring)) e
 
   module _ (cut : j < spans book) (plan : Plan) (fair : Fair (cutLine book j) plan) where
-    inside : j < book .nodes
-    inside = omega (arith, ring-spans on)
-
     known : (i : ℕ) → i < count book → i < count (cutLine book j)
     known i l = omega (arith, cut-count on j)
 
@@ -88,14 +85,14 @@ module _ {book : Book} (on : Ring book) (j : ℕ) where
 
         differ : (i i′ s : ℕ) → i < count book → i′ < count book → s < spans book → over book plan i s ≡ true → over book plan i′ s ≡ true → (i ≡ i′ → ⊥) → channel plan i ≡ channel plan i′ → ⊥
         differ i i′ s l l′ h o o′ =
-            let p = span-of-place (book .nodes) j inside s (omega (arith, ring-spans on)) (not-the-cut i s l h o) in
+            let p = span-of-place (book .nodes) j (inside on j cut) s (omega (arith, ring-spans on)) (not-the-cut i s l h o) in
             fair .channels-differ i i′ (steps (book .nodes) (j + 1) s) (known i l) (known i′ l′) (omega (arith, cut-spans on j, p .0))
             (sym (over-place i _ l (p .0)) ∙ ap (λ (k : ℕ). over book plan i k) (p .1) ∙ o)
             (sym (over-place i′ _ l′ (p .0)) ∙ ap (λ (k : ℕ). over book plan i′ k) (p .1) ∙ o′)
 
         within : (s : ℕ) → s < spans book → (s ≡ j → ⊥) → load book plan s ≤ limit book s
         within s h n =
-            let p = span-of-place (book .nodes) j inside s (omega (arith, ring-spans on)) n in
+            let p = span-of-place (book .nodes) j (inside on j cut) s (omega (arith, ring-spans on)) n in
             omega (arith, ap (load book plan) (p .1), ap (limit book) (p .1), load-place _ (p .0), cut-limit on j _ (p .0), fair .within-limits (steps (book .nodes) (j + 1) s) (omega (arith, cut-spans on j, p .0)))
 
   pub cut-plan-obeys : j < spans book → (plan : Plan) → obeys (cutLine book j) plan ≡ true → obeys book plan ≡ true

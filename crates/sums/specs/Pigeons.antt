@@ -8,7 +8,7 @@ use native.Mathlib.Omega.{arith}
 use borrow.Author.Tests.{eqb-true, eq-eqb, ne-eqb}
 use lib.Dec.{eqb}
 use Rattle.sums.specs.Each.{first, first-here, both, decided}
-use Rattle.sums.specs.Sums.{Σ, bit, when-yes, when-no, Σ-le, Σ-zero, Σ-swap, Σ-part, Σ-most}
+use Rattle.sums.specs.Sums.{Σ, bit, when-yes, when-no, same-none, Σ-le, Σ-zero, Σ-swap, Σ-part, Σ-most}
 
 -- a sum of at least 1 each
 pub Σ-least : (n : ℕ) (f : ℕ → ℕ) → ((i : ℕ) → i < n → 1 ≤ f i) → n ≤ Σ n f
@@ -25,7 +25,7 @@ once (suc k) a = ⊎-elim here (λ e. omega (arith, once k a, when-no (eqb a (su
     here : eqb a (suc k) ≡ true → Σ k (λ c. bit (eqb a (suc c))) + bit (eqb a (suc k)) ≤ 1
     here e =
         let same : a ≡ suc k = eqb-true a (suc k) e in
-        omega (arith, when-yes (eqb a (suc k)) 1 e, Σ-zero k (λ c. bit (eqb a (suc c))) (λ c l. when-no (eqb a (suc c)) 1 (ne-eqb a (suc c) (λ q. omega arith))))
+        omega (arith, when-yes (eqb a (suc k)) 1 e, Σ-zero k (λ c. bit (eqb a (suc c))) (λ c l. same-none a (suc c) (λ q. omega arith)))
 
 holds-once : (k a : ℕ) (t : Bool) → Σ k (λ c. bit (t && eqb a (suc c))) ≤ bit t
 holds-once k a true = once k a

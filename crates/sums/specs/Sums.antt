@@ -6,6 +6,8 @@ use mathlib.Core.Logic.{⊎-elim}
 use Prim.Native.Nat.{ℕ, zero, suc, _+_, _*_, _≤_, _<_}
 use native.Mathlib.Nat.{eq-or-lt-of-le, le-of-suc-le-suc}
 use native.Mathlib.Omega.{arith}
+use borrow.Author.Tests.{eq-eqb, ne-eqb}
+use lib.Dec.{eqb}
 
 -- f 0 + f 1 + .. + f (n − 1)
 unfoldable pub Σ : ℕ → (ℕ → ℕ) → ℕ
@@ -114,6 +116,16 @@ when-yes t x e = rw e
 
 pub when-no : (t : Bool) (x : ℕ) → t ≡ false → when t x ≡ 0
 when-no t x e = rw e
+
+-- 1 where the two are the same, 0 where not
+abbrev pub same : ℕ → ℕ → ℕ
+same a b = bit (eqb a b)
+
+pub same-one : (a b : ℕ) → a ≡ b → same a b ≡ 1
+same-one a b q = when-yes (eqb a b) 1 (eq-eqb a b q)
+
+pub same-none : (a b : ℕ) → (a ≡ b → ⊥) → same a b ≡ 0
+same-none a b n = when-no (eqb a b) 1 (ne-eqb a b n)
 
 pub when-Σ : (t : Bool) (n : ℕ) (f : ℕ → ℕ) → when t (Σ n f) ≡ Σ n (λ i. when t (f i))
 when-Σ true n f = refl

@@ -31,7 +31,7 @@ plan-row-requires c κs =
 put-back-requires : tie.Need-put-back-requires
 put-back-requires c κs =
     let o = ranked (c .before .before .before .before .before .before .before .before .before .before) in
-    record { few = start (laid (made o)) .pre .profits-are .few; below = o .ordered .ensures .back .below }
+    record { few = start (laid (made o)) .pre .profits-in .few; below = o .ordered .ensures .back .below }
 
 returns : tie.Need-returns
 returns c =

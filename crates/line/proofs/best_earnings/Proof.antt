@@ -19,7 +19,7 @@ price-requires c κs =
 earned-requires : tie.Need-earned-requires
 earned-requires c κs =
     let s = c .before .before .before .before in
-    can-solve (s .before .before .before .before .before .pre .0) .profits-are
+    can-solve (s .before .before .before .before .before .pre .0) .profits-in
 
 returns : tie.Need-returns
 unfolding clamp

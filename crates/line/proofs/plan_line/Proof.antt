@@ -68,10 +68,10 @@ price-requires c κs =
     }
 
 earned-requires : tie.Need-earned-requires
-earned-requires c κs = let s = solved (handed (entered (mapped (c .before .before)))) in can-solve (start s .pre .columns) .profits-are
+earned-requires c κs = let s = solved (handed (entered (mapped (c .before .before)))) in can-solve (start s .pre .columns) .profits-in
 
 number-requires : tie.Need-number-requires
-number-requires c κs = let s = solved (handed (entered (mapped (c .before .before .before .before)))) in can-solve (start s .pre .columns) .profits-are .few
+number-requires c κs = let s = solved (handed (entered (mapped (c .before .before .before .before)))) in can-solve (start s .pre .columns) .profits-in .few
 
 returns-2 : tie.Need-returns-2
 returns-2 c =
