@@ -1,67 +1,75 @@
--- Where the latest connection on each channel ends. Channels are given by first cell, so a channel is held past a node exactly where its latest connection
--- reaches past it: no earlier one on it ends later. Giving a channel that is free at the node makes the new connection its latest. Assumes nothing.
-use mathlib.Core.Bool.{Bool}
+-- Where the latest connection on each channel ends. Turns go by first node, so a channel is held past a node exactly where its latest connection reaches past
+-- it: no earlier one on it ends later. One that has its turn on a channel free at its node becomes the latest there. Assumes nothing.
+use mathlib.Core.Bool.{Bool, true}
 use mathlib.Core.List.{List}
 use mathlib.Core.Logic.{⊎-elim}
-use mathlib.Core.Path.{_≡_, refl, sym, _∙_}
-use Prim.Native.Nat.{ℕ, _≤_, _<_}
+use mathlib.Core.Path.{_≡_, sym, _∙_}
+use Prim.Native.Nat.{ℕ, _+_, _≤_, _<_}
 use native.Mathlib.Omega.{arith}
-use lib.ListN.{set, replicate, length, length-set}
+use lib.ListN.{set, replicate, length, length-set, length-replicate}
 use lib.Dec.{ltb}
 use Rattle.sums.specs.At.{zeros, Stored, store}
 use Rattle.sums.specs.Each.{same-or-not}
-use Rattle.channels.specs.HandOut.{at}
+use Rattle.channels.specs.HandOut.{at, flag}
+use Rattle.channels.specs.Had.{Had, SameHad, had-newer, had-older, had-own, had-apart}
 
 -- channel c is held past node `from`
 abbrev pub heldPast : List ℕ → ℕ → ℕ → Bool
 heldPast ends from c = ltb from (at ends c)
 
--- of the first `count`, none on a channel ends past the place remembered for it, and one ends there, unless the place is 0; channel 0 is none
-pub record Latest (count : ℕ) (hi channel ends : List ℕ) : Type 0 where
-  pub long : length ends ≡ 128
-  pub upto : (j : ℕ) → j < count → 0 < at channel j → at hi j ≤ at ends (at channel j)
-  pub by : (c : ℕ) → 1 ≤ c → 0 < at ends c → (j : ℕ) × (j < count) × (at channel j ≡ c) × (at hi j ≡ at ends c)
+-- of those that had their turn none on a channel ends past the end remembered for it, and one ends there, unless it is 0
+pub record Latest (size count : ℕ) (lo hi : List ℕ) (flags : List Bool) (channel ends : List ℕ) (v i : ℕ) : Type 0 where
+  pub long : length ends ≡ size
+  pub upto : (j : ℕ) → Had count lo flags v i j → at hi j ≤ at ends (at channel j)
+  pub by : (c : ℕ) → 0 < at ends c → (j : ℕ) × Had count lo flags v i j × (at channel j ≡ c) × (at hi j ≡ at ends c)
 
--- with no channel given, no place is remembered
-pub latest-start : {count : ℕ} {hi channel : List ℕ} → ((j : ℕ) → j < count → at channel j ≡ 0) → Latest count hi channel (replicate 128 0)
-latest-start none = record { long = refl; upto = λ j l h. absurd (omega (arith, none j l)); by = λ c from h. absurd (omega (arith, zeros 128 c)) }
+module _ {size count : ℕ} {lo hi : List ℕ} {flags : List Bool} {channel : List ℕ} where
+  -- no turn was had yet, and no end is remembered
+  pub latest-start : Latest size count lo hi flags channel (replicate size 0) 0 0
+  latest-start = record { long = length-replicate size 0; upto = λ j h. absurd (omega (arith, h .early)); by = λ c h. absurd (omega (arith, zeros size c)) }
 
--- number i, which had no channel, gets c, whose latest connection ends no later than i does
-module _
-    {count i c : ℕ} {hi channel ends : List ℕ}
-    (m : Latest count hi channel ends) (l : i < count) (long : length channel ≡ 256) (few : count ≤ 256)
-    (from : 1 ≤ c) (small : c < 128) (none : at channel i ≡ 0) (earlier : at ends c ≤ at hi i)
-  where
-    given : Stored 0 channel i c (set channel i c)
-    given = store 0 channel i c (omega arith)
+  pub latest-same :
+      {ends : List ℕ} {v i w p : ℕ} → SameHad count lo flags v i w p → Latest size count lo hi flags channel ends v i
+      → Latest size count lo hi flags channel ends w p
+  latest-same same was = record {
+    long = was .long;
+    upto = λ j h. was .upto j (same .back j h);
+    by = λ c h. let last = was .by c h in (last .0, same .there (last .0) (last .1), last .2, last .3);
+  }
 
-    latest : Stored 0 ends c (at hi i) (set ends c (at hi i))
-    latest = store 0 ends c (at hi i) (omega (arith, m .long))
+  -- number i has its turn, on channel c, whose latest connection ends no later than i does; the others keep their channels
+  module _
+      {ends channel′ : List ℕ} {v i c : ℕ}
+      (was : Latest size count lo hi flags channel ends v i) (few : count ≤ 256) (l : i < count) (is : flag flags i ≡ true) (begins : at lo i ≡ v)
+      (small : c < size) (earlier : at ends c ≤ at hi i) (mine : at channel′ i ≡ c) (others : (j : ℕ) → (j ≡ i → ⊥) → at channel′ j ≡ at channel j)
+    where
+      pub latest-more : Latest size count lo hi flags channel′ (set ends c (at hi i)) v (i + 1)
+      latest-more = record { long = length-set ends c (at hi i) ∙ was .long; upto = upto; by = by }
+        where
+          after : List ℕ
+          after = set ends c (at hi i)
 
-    pub latest-given : Latest count hi (set channel i c) (set ends c (at hi i))
-    latest-given = record { long = length-set ends c (at hi i) ∙ m .long; upto = upto; by = by }
-      where
-        -- an earlier one on c ended by then
-        before : (j : ℕ) → j < count → 0 < at channel j → at hi j ≤ at (set ends c (at hi i)) (at channel j)
-        before j lj h = ⊎-elim (λ q. same q) (λ ne. rw (latest .elsewhere (at channel j) ne) (m .upto j lj h)) (same-or-not (at channel j) c)
-          where
-            same : at channel j ≡ c → at hi j ≤ at (set ends c (at hi i)) (at channel j)
-            same q =
-                let old : at hi j ≤ at ends c = rw q at (m .upto j lj h) in
-                rw (latest .here (at channel j) q) (omega arith)
+          latest : Stored 0 ends c (at hi i) after
+          latest = store 0 ends c (at hi i) (omega (arith, was .long))
 
-        upto : (j : ℕ) → j < count → 0 < at (set channel i c) j → at hi j ≤ at (set ends c (at hi i)) (at (set channel i c) j)
-        upto j lj h = ⊎-elim (λ q. mine q) (λ ne. rw (given .elsewhere j ne) (before j lj (rw (given .elsewhere j ne) at h))) (same-or-not j i)
-          where
-            mine : j ≡ i → at hi j ≤ at (set ends c (at hi i)) (at (set channel i c) j)
-            mine q = rw (given .here j q, latest .here c refl, q) (omega arith)
+          -- an earlier one on c ended by then
+          before : (j : ℕ) → Had count lo flags v i j → at hi j ≤ at after (at channel j)
+          before j h =
+              ⊎-elim (λ q. same q) (λ ne. rw (latest .elsewhere (at channel j) ne) (was .upto j h)) (same-or-not (at channel j) c)
+            where
+              same : at channel j ≡ c → at hi j ≤ at after (at channel j)
+              same q =
+                  let old : at hi j ≤ at ends c = rw q at (was .upto j h) in
+                  rw (latest .here (at channel j) q) (omega arith)
 
-        by : (d : ℕ) → 1 ≤ d → 0 < at (set ends c (at hi i)) d →
-            (j : ℕ) × (j < count) × (at (set channel i c) j ≡ d) × (at hi j ≡ at (set ends c (at hi i)) d)
-        by d one h = ⊎-elim (λ q. (i, l, given .here i refl ∙ sym q, sym (latest .here d q))) (λ ne. old ne) (same-or-not d c)
-          where
-            old : (d ≡ c → ⊥) → (j : ℕ) × (j < count) × (at (set channel i c) j ≡ d) × (at hi j ≡ at (set ends c (at hi i)) d)
-            old ne =
-                let w = m .by d one (rw (latest .elsewhere d ne) at h) in
-                let apart : w .0 ≡ i → ⊥ = λ q. let mine : at channel i ≡ d = rw q at (w .2) in omega arith in
-                (w .0, w .1, given .elsewhere (w .0) apart ∙ w .2, w .3 ∙ sym (latest .elsewhere d ne))
+          upto : (j : ℕ) → Had count lo flags v (i + 1) j → at hi j ≤ at after (at channel′ j)
+          upto j h =
+              ⊎-elim (λ (q : j ≡ i). rw (q, latest .here (at channel′ i) mine) (omega arith)) (λ ne. rw (others j ne) (before j (had-older few l ne h))) (same-or-not j i)
+
+          by : (d : ℕ) → 0 < at after d → (j : ℕ) × Had count lo flags v (i + 1) j × (at channel′ j ≡ d) × (at hi j ≡ at after d)
+          by d h = ⊎-elim (λ q. (i, had-own l is begins, mine ∙ sym q, sym (latest .here d q))) (λ ne. old ne) (same-or-not d c)
+            where
+              old : (d ≡ c → ⊥) → (j : ℕ) × Had count lo flags v (i + 1) j × (at channel′ j ≡ d) × (at hi j ≡ at after d)
+              old ne =
+                  let last = was .by d (rw (latest .elsewhere d ne) at h) in
+                  (last .0, had-newer (last .1), others (last .0) (had-apart begins (last .1)) ∙ last .2, last .3 ∙ sym (latest .elsewhere d ne))

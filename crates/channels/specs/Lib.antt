@@ -1,3 +1,4 @@
+pub mod Had
 pub mod HandOut
 pub mod Latest
 pub mod Lists

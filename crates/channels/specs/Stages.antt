@@ -1,10 +1,10 @@
--- Channels are given in the order of the rule, by first cell, then by number. When the turn of a place in that order has come, exactly the kept ones before
--- it have a channel, and it is the one that the rule gives them; past the last cell all kept ones are before, so they follow the rule. Assumes nothing.
+-- Channels are given in the order of the rule, by first cell, then by number. When a turn in that order has come, exactly the kept ones that had theirs
+-- have a channel, and it is the one that the rule gives them; past the last cell all kept ones are before, so they follow the rule. Assumes nothing.
 use mathlib.Core.Bool.{Bool, true, false}
 use mathlib.Core.List.{List}
 use mathlib.Core.Logic.{⊎-elim}
 use mathlib.Core.Path.{_≡_, refl, sym, _∙_}
-use Prim.Native.Nat.{ℕ, _+_, _*_, _≤_, _<_}
+use Prim.Native.Nat.{ℕ, _+_, _≤_, _<_}
 use native.Mathlib.Omega.{arith}
 use lib.ListN.{replicate, length}
 use Rattle.sums.specs.Each.{of-yes, less-or-not}
@@ -12,25 +12,11 @@ use Rattle.sums.specs.Lowest.{lowestFree}
 use Rattle.row.specs.Row.{heldBefore}
 use Rattle.row.specs.Channels.{Ruled, rule-ext, found, ruled-exists}
 use Rattle.channels.specs.HandOut.{at, flag, rowOn, CanHandOut, HandedOut}
-use Rattle.channels.specs.Latest.{Latest, latest-start}
+use Rattle.channels.specs.Had.{Had, SameHad, had-pass, had-next}
+use Rattle.channels.specs.Latest.{Latest, latest-start, latest-same}
 use Rattle.channels.specs.Lists.{Leads}
 use Rattle.channels.specs.declared.Given.{Given}
 use Rattle.channels.specs.declared.Given.the-variants.{All}
-
--- the place of number i at node v in the order; a number is below 256, so no node's places reach into the next one's
-abbrev pub place : ℕ → ℕ → ℕ
-place v i = v * 256 + i
-
--- the numbers from i to p have no turn at v, where none of them is kept and begins at v: what is kept and before p is before i
-pub passed-over :
-    {count i v p j : ℕ} {lo : List ℕ} {kept : List Bool} → count ≤ 256 → Leads count i v lo kept p → j < count → flag kept j ≡ true
-    → place (at lo j) j < place v p → place (at lo j) j < place v i
-passed-over {i = i} {v} {j = j} {lo} few m l e h = ⊎-elim (λ g. g) (λ g. absurd (now g)) (less-or-not (place (at lo j) j) (place v i))
-  where
-    now : place v i ≤ place (at lo j) j → ⊥
-    now g =
-        let begins : at lo j ≡ v = omega (arith, m .upto) in
-        m .passed j (omega arith) (omega arith) l e begins
 
 -- the channels by the rule: there is one such choice (`ruled-exists` and `ruled-once` of the crate row)
 abbrev pub rule : ℕ → ℕ → ℕ → List ℕ → List ℕ → List Bool → ℕ → ℕ
@@ -40,12 +26,12 @@ rule cells count k lo hi kept = ruled-exists (rowOn cells count lo hi) k (flag k
 pub record Stage (cells count k : ℕ) (lo hi : List ℕ) (kept : List Bool) (channel ends : List ℕ) (v i : ℕ) : Type 0 where
   pub can : CanHandOut cells count k lo hi kept
   pub long : length channel ≡ 256
-  pub given : (j : ℕ) → j < count → flag kept j ≡ true → place (at lo j) j < place v i → at channel j ≡ rule cells count k lo hi kept j
-  pub only : (j : ℕ) → j < count → 0 < at channel j → (flag kept j ≡ true) × (place (at lo j) j < place v i)
-  pub latest : Latest count hi channel ends
+  pub given : (j : ℕ) → Had count lo kept v i j → at channel j ≡ rule cells count k lo hi kept j
+  pub only : (j : ℕ) → j < count → 0 < at channel j → Had count lo kept v i j
+  pub latest : Latest 128 count lo hi kept channel ends v i
 
 -- what giving the channels of node v comes to; the number of cells plays no part in it, so it is said for each
-pub record Turned (v count k : ℕ) (lo hi : List ℕ) (kept : List Bool) (channel ends : List ℕ) (given : Given) (channel′ ends′ : List ℕ) : Type 0 where
+pub record NodeGiven (v count k : ℕ) (lo hi : List ℕ) (kept : List Bool) (channel ends : List ℕ) (given : Given) (channel′ ends′ : List ℕ) : Type 0 where
   pub all : given ≡ All
   pub next : (cells : ℕ) → Stage cells count k lo hi kept channel ends v 0 → Stage cells count k lo hi kept channel′ ends′ (v + 1) 0
 
@@ -66,38 +52,37 @@ module _ {cells count k : ℕ} {lo hi : List ℕ} {kept : List Bool} {channel en
   channel-upto j l = ⊎-elim real (λ h. omega arith) (less-or-not 0 (at channel j))
     where
       real : 0 < at channel j → at channel j ≤ k
-      real h = let first = s .only j l h in rw (s .given j l (first .0) (first .1)) (rule-upto (s .can) j l (first .0))
+      real h = let had = s .only j l h in rw (s .given j had) (rule-upto (s .can) j l (had .real))
+
+  -- the same ones had their turn before the one as before the other
+  stage-same : {w p : ℕ} → SameHad count lo kept v i w p → Stage cells count k lo hi kept channel ends w p
+  stage-same same = record {
+    can = s .can;
+    long = s .long;
+    given = λ j h. s .given j (same .back j h);
+    only = λ j l h. same .there j (s .only j l h);
+    latest = latest-same same (s .latest);
+  }
 
   -- the numbers from i to p are passed over
   pub stage-pass : {p : ℕ} → Leads count i v lo kept p → Stage cells count k lo hi kept channel ends v p
-  stage-pass {p} m = record {
-    can = s .can;
-    long = s .long;
-    given = λ j lj ej h. s .given j lj ej (passed-over (s .can .count-upto) m lj ej h);
-    only = λ j lj h. let first = s .only j lj h in (first .0, omega (arith, first .1, m .on));
-    latest = s .latest;
-  }
+  stage-pass m = stage-same (had-pass (s .can .count-upto) m)
+
+  -- every number had its turn at node v
+  pub stage-next : count ≤ i → i ≤ 256 → Stage cells count k lo hi kept channel ends (v + 1) 0
+  stage-next past upto = stage-same (had-next (s .can .count-upto) past upto)
 
 module _ {cells count k : ℕ} {lo hi : List ℕ} {kept : List Bool} {channel : List ℕ} where
   pub stage-start : CanHandOut cells count k lo hi kept → length channel ≡ 256 → ((j : ℕ) → j < count → at channel j ≡ 0) → Stage cells count k lo hi kept channel (replicate 128 0) 0 0
-  stage-start can long none = record { can = can; long = long; given = λ j l e p. absurd (omega arith); only = λ j l h. absurd (omega (arith, none j l)); latest = latest-start none }
-
-  -- every number had its turn at node v, whose places end where the next one's begin
-  pub stage-next : {ends : List ℕ} {v i : ℕ} → count ≤ i → i ≤ 256 → Stage cells count k lo hi kept channel ends v i → Stage cells count k lo hi kept channel ends (v + 1) 0
-  stage-next past upto s = record {
-    can = s .can;
-    long = s .long;
-    given = λ j l e p. s .given j l e (omega (arith, s .can .count-upto));
-    only = λ j l h. let first = s .only j l h in (first .0, omega (arith, first .1));
-    latest = s .latest;
-  }
+  stage-start can long none = record { can = can; long = long; given = λ j h. absurd (omega (arith, h .early)); only = λ j l h. absurd (omega (arith, none j l)); latest = latest-start }
 
   -- every kept one begins before the last node
   pub stage-end : {ends : List ℕ} → Stage cells count k lo hi kept channel ends cells 0 → HandedOut cells count k lo hi kept All channel
   stage-end s = record { all = refl; ruled = record { is = is }; upto = channel-upto s; none = none }
     where
       every : (j : ℕ) → j < count → flag kept j ≡ true → at channel j ≡ rule cells count k lo hi kept j
-      every j l e = s .given j l e (omega (arith, s .can .proper .some-cell j l, s .can .proper .in-row j l, s .can .count-upto))
+      every j l e =
+          s .given j (record { low = l; real = e; early = omega (arith, s .can .proper .some-cell j l, s .can .proper .in-row j l, s .can .count-upto) })
 
       is : (i : ℕ) → i < count → flag kept i ≡ true → at channel i ≡ lowestFree k (heldBefore (rowOn cells count lo hi) (flag kept) (at channel) i)
       is i l e =
@@ -105,4 +90,4 @@ module _ {cells count k : ℕ} {lo hi : List ℕ} {kept : List Bool} {channel : 
           ∙ rule-ext (rowOn cells count lo hi) (flag kept) k _ (at channel) i (record { at = λ j lj ej b. sym (every j lj ej) })
 
       none : (i : ℕ) → i < count → flag kept i ≡ false → at channel i ≡ 0
-      none i l e = ⊎-elim (λ h. absurd (of-yes (sym e ∙ s .only i l h .0))) (λ h. omega arith) (less-or-not 0 (at channel i))
+      none i l e = ⊎-elim (λ h. absurd (of-yes (sym e ∙ s .only i l h .real))) (λ h. omega arith) (less-or-not 0 (at channel i))

@@ -8,7 +8,7 @@ ghost use Rattle.sums.specs.Lowest.{lowestFree};
 ghost use Rattle.channels.specs.HandOut.{CanHandOut, HandedOut};
 ghost use Rattle.channels.specs.Latest.{heldPast};
 ghost use Rattle.channels.specs.Lists.{ListedByNode};
-ghost use Rattle.channels.specs.Stages.{Stage, Turned};
+ghost use Rattle.channels.specs.Stages.{Stage, NodeGiven};
 
 // Whether every kept one has a channel, or the one that finds none of 1 to k left (refusal 15).
 pub enum Given {
@@ -73,7 +73,7 @@ fn give_from(
     requires { ⌜ v < 128 ⌝ }
     requires { ⌜ ListedByNode count 0 (now lo) (now kept) (now first) (now after) ⌝ }
     requires { ⌜ ((cells : ℕ) × Stage cells count k (now lo) (now hi) (now kept) (now channel) (now ends) v 0) ⌝ }
-    ensures { λ r. ⌜ Turned v count k (now (lo .entry)) (now (hi .entry)) (now (kept .entry)) (now (channel .entry)) (now (ends .entry)) r (now (channel .exit)) (now (ends .exit)) ⌝ }
+    ensures { λ r. ⌜ NodeGiven v count k (now (lo .entry)) (now (hi .entry)) (now (kept .entry)) (now (channel .entry)) (now (ends .entry)) r (now (channel .exit)) (now (ends .exit)) ⌝ }
 {
     let mut i = first[v];
     while i < count {

@@ -28,7 +28,7 @@ use Rattle.lines.specs.Obeys.{formed-has}
 use Rattle.lines.specs.Laid.{Laid, over-covers}
 use Rattle.lawful.specs.Drawn.{Drawn}
 use Rattle.lawful.specs.Entry.{formedAt, formedIn, PlanLaidOut}
-use Rattle.lawful.specs.Spans.{over, FairOn, FairSpans, CanSweep, Decides}
+use Rattle.lawful.specs.Spans.{onSpan, FairOn, FairSpans, CanSweep, Decides}
 use Rattle.lawful.specs.SpanBySpan.{formedOr, obeys-formed, obeys-on, on-obeys}
 
 -- the same requests, channels and limit, said in another way
@@ -48,7 +48,7 @@ pub can-sweep :
     → CanSweep count lo hi crossing held
 unfolding channel
 can-sweep {a = a} {b} {plan = plan} a-in b-in laid-out = record {
-  between = record {
+  laid = record {
     upward = λ i l. omega (arith, laid-out .lo-is .is i l, laid-out .hi-is .is i l, when-upto (kept plan i) (min (at a i) (at b i)) (max (at a i) (at b i)) (omega arith));
     in-line = record {
       few = a-in .few;
@@ -76,25 +76,25 @@ module _
     {plan : Plan} {lo hi held : List ℕ} {crossing : List Bool} (laid-out : PlanLaidOut count a b plan lo hi crossing held)
   where
     -- a request by its columns crosses the spans that it crosses on its way
-    over-columns : Laid book plan → (s i : ℕ) → i < count → Plans.over book plan i s ≡ over lo hi s i
+    over-columns : Laid book plan → (s i : ℕ) → i < count → Plans.over book plan i s ≡ onSpan lo hi s i
     unfolding covers rowOf
     over-columns laid s i l = over-covers (drawn .on) laid i s (omega (arith, drawn .counted)) ∙ ⊎-elim yes-kept not-kept (decided (kept plan i))
       where
-        yes-kept : kept plan i ≡ true → (kept plan i && isBetween (min (endA book i) (endB book i)) (max (endA book i) (endB book i)) s) ≡ over lo hi s i
+        yes-kept : kept plan i ≡ true → (kept plan i && isBetween (min (endA book i) (endB book i)) (max (endA book i) (endB book i)) s) ≡ onSpan lo hi s i
         yes-kept k = rw (laid-out .lo-is .is i l, laid-out .hi-is .is i l, k, drawn .a-is .is i l, drawn .b-is .is i l)
 
-        not-kept : kept plan i ≡ false → (kept plan i && isBetween (min (endA book i) (endB book i)) (max (endA book i) (endB book i)) s) ≡ over lo hi s i
+        not-kept : kept plan i ≡ false → (kept plan i && isBetween (min (endA book i) (endB book i)) (max (endA book i) (endB book i)) s) ≡ onSpan lo hi s i
         not-kept k =
             rw k (sym (not-between (at lo i) (at hi i) s (omega (arith, laid-out .hi-is .is i l, when-no (kept plan i) (max (at a i) (at b i)) k))))
 
     -- so a span is fair by the columns exactly when it is fair by the rules
     by-columns : (s : ℕ) → s < spans → Laid book plan
-        → FairOn (Books.count book) (λ i. Plans.over book plan i s) (channel plan) (limit book s) → FairOn count (over lo hi s) (at held) (at limits s)
+        → FairOn (Books.count book) (λ i. Plans.over book plan i s) (channel plan) (limit book s) → FairOn count (onSpan lo hi s) (at held) (at limits s)
     by-columns s l laid fair =
         fair-as (λ i li. over-columns laid s i li) (λ i li. sym (laid-out .channel-is .is i li)) (sym (drawn .limit-is .is s l)) (rw (drawn .counted) fair)
 
     by-rules : (s : ℕ) → s < spans → Laid book plan
-        → FairOn count (over lo hi s) (at held) (at limits s) → FairOn (Books.count book) (λ i. Plans.over book plan i s) (channel plan) (limit book s)
+        → FairOn count (onSpan lo hi s) (at held) (at limits s) → FairOn (Books.count book) (λ i. Plans.over book plan i s) (channel plan) (limit book s)
     by-rules s l laid fair =
         rw (← drawn .counted) (fair-as (λ i li. sym (over-columns laid s i li)) (laid-out .channel-is .is) (drawn .limit-is .is s l) fair)
 

@@ -15,7 +15,7 @@ use Rattle.sums.specs.Each.{less-or-not, same-or-not}
 use Rattle.sums.specs.Sums.{Σ, bit, bit-le, Σ-ext, Σ-add, Σ-most, Σ-zero, same-one, same-none}
 use Rattle.sums.specs.Turns.{Σ-more}
 use Rattle.book.specs.Columns.{at}
-use Rattle.lawful.specs.Spans.{over, WithinSpans}
+use Rattle.lawful.specs.Spans.{onSpan, WithinSpans}
 
 -- the first `count` of a column of nodes, counted by node
 pub record Tallied (count : ℕ) (nodes tally : List ℕ) : Type 0 where
@@ -107,27 +107,27 @@ module _
     {count : ℕ} {limits lo hi begins ends : List ℕ} {s load : ℕ} (up : (i : ℕ) → i < count → at lo i ≤ at hi i) (begin : Tallied count lo begins)
     (end : Tallied count hi ends) (small : s < 64) (was : Loaded limits count lo hi s load)
   where
-    crossed : Σ count (λ i. bit (over lo hi s i)) + upTo count hi s ≡ upTo count lo s
+    crossed : Σ count (λ i. bit (onSpan lo hi s i)) + upTo count hi s ≡ upTo count lo s
     crossed =
-        sym (Σ-add count (λ i. bit (over lo hi s i)) (λ i. bit (leb (at hi i) s)))
+        sym (Σ-add count (λ i. bit (onSpan lo hi s i)) (λ i. bit (leb (at hi i) s)))
         ∙ Σ-ext count _ _ (λ i l. crosses-or-ended (at lo i) (at hi i) s (up i l))
 
     later : (nodes : List ℕ) → upTo count nodes s ≡ before count nodes (s + 1)
     later nodes = Σ-ext count _ _ (λ i l. before-next (at nodes i) s)
 
     -- those that end at s are among those that came so far, and the others cross the span after s
-    pub load-turns : Σ count (λ i. bit (over lo hi s i)) + at ends s ≡ load + at begins s
+    pub load-turns : Σ count (λ i. bit (onSpan lo hi s i)) + at ends s ≡ load + at begins s
     load-turns = omega (arith, was .load-is, tally-steps begin small, tally-steps end small, crossed)
 
-    pub load-crosses : load + at begins s - at ends s ≡ Σ count (λ i. bit (over lo hi s i))
+    pub load-crosses : load + at begins s - at ends s ≡ Σ count (λ i. bit (onSpan lo hi s i))
     load-crosses = omega (arith, load-turns)
 
     pub loaded-more : load + at begins s - at ends s ≤ at limits s → Loaded limits count lo hi (s + 1) (load + at begins s - at ends s)
     loaded-more upto = record {
       load-is = omega (arith, load-crosses, crossed, later lo, later hi);
-      few = omega (arith, load-crosses, Σ-most count (λ i. bit (over lo hi s i)) 1 (λ i l. bit-le (over lo hi s i)));
+      few = omega (arith, load-crosses, Σ-most count (λ i. bit (onSpan lo hi s i)) 1 (λ i l. bit-le (onSpan lo hi s i)));
       within = record {
-        on = below-more (λ (t : ℕ). Σ count (λ i. bit (over lo hi t i)) ≤ at limits t) s (was .within .on) (omega (arith, load-crosses));
+        on = below-more (λ (t : ℕ). Σ count (λ i. bit (onSpan lo hi t i)) ≤ at limits t) s (was .within .on) (omega (arith, load-crosses));
       };
     }
 

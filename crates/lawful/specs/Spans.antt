@@ -18,8 +18,8 @@ pub record Decides (answer : Bool) (P : Type 0) : Type 0 where
   pub whole : P → answer ≡ true
 
 -- request i of a plan laid out in columns crosses span s
-abbrev pub over : List ℕ → List ℕ → ℕ → ℕ → Bool
-over lo hi s i = isBetween (at lo i) (at hi i) s
+abbrev pub onSpan : List ℕ → List ℕ → ℕ → ℕ → Bool
+onSpan lo hi s i = isBetween (at lo i) (at hi i) s
 
 -- no earlier one that crosses has the channel of request i
 abbrev pub Alone : (ℕ → Bool) → (ℕ → ℕ) → ℕ → Type 0
@@ -32,14 +32,14 @@ pub record FairOn (count : ℕ) (crosses : ℕ → Bool) (channel : ℕ → ℕ)
 
 -- so on each span
 pub record FairSpans (spans : ℕ) (limits : List ℕ) (count : ℕ) (lo hi channels : List ℕ) : Type 0 where
-  pub on : (s : ℕ) → s < spans → FairOn count (over lo hi s) (at channels) (at limits s)
+  pub on : (s : ℕ) → s < spans → FairOn count (onSpan lo hi s) (at channels) (at limits s)
 
 -- the channels' half of it, and the loads'
 pub record ApartSpans (spans count : ℕ) (lo hi channels : List ℕ) : Type 0 where
-  pub on : (s : ℕ) → s < spans → (i : ℕ) → i < count → Alone (over lo hi s) (at channels) i
+  pub on : (s : ℕ) → s < spans → (i : ℕ) → i < count → Alone (onSpan lo hi s) (at channels) i
 
 pub record WithinSpans (spans : ℕ) (limits : List ℕ) (count : ℕ) (lo hi : List ℕ) : Type 0 where
-  pub on : (s : ℕ) → s < spans → Σ count (λ i. bit (over lo hi s i)) ≤ at limits s
+  pub on : (s : ℕ) → s < spans → Σ count (λ i. bit (onSpan lo hi s i)) ≤ at limits s
 
 module _ {spans count : ℕ} {limits lo hi channels : List ℕ} where
   -- a span above its limit decides; else the channels do
@@ -55,16 +55,16 @@ module _ {spans count : ℕ} {limits lo hi channels : List ℕ} where
   }
 
 -- at most 256 requests, each from a node up to another below 64
-pub record Between (count : ℕ) (lo hi : List ℕ) : Type 0 where
+pub record LaidUpward (count : ℕ) (lo hi : List ℕ) : Type 0 where
   pub upward : (i : ℕ) → i < count → at lo i ≤ at hi i
   pub in-line : NumbersBelow 64 count hi
 
 -- so their first nodes are below 64, and below any bound from there on
-pub begin-below : {count : ℕ} {lo hi : List ℕ} (bound : ℕ) → 64 ≤ bound → Between count lo hi → NumbersBelow bound count lo
+pub begin-below : {count : ℕ} {lo hi : List ℕ} (bound : ℕ) → 64 ≤ bound → LaidUpward count lo hi → NumbersBelow bound count lo
 begin-below bound upto can = record { few = can .in-line .few; below = λ i l. omega (arith, can .upward i l, can .in-line .below i l) }
 
 -- and a flag for those that cross a span at all, and channels below 256, as an entry's are
 pub record CanSweep (count : ℕ) (lo hi : List ℕ) (crossing : List Bool) (channels : List ℕ) : Type 0 where
-  pub between : Between count lo hi
+  pub laid : LaidUpward count lo hi
   pub real : (i : ℕ) → i < count → flag crossing i ≡ ltb (at lo i) (at hi i)
   pub held : NumbersBelow 256 count channels

@@ -2,7 +2,7 @@
 ghost use Prim.Native.Nat.{_≤_, _<_};
 ghost use Rattle.sums.specs.At.{NumbersBelow};
 ghost use Rattle.channels.specs.Lists.{ListedByNode};
-ghost use Rattle.lawful.specs.Spans.{Decides, Between, CanSweep, WithinSpans, ApartSpans};
+ghost use Rattle.lawful.specs.Spans.{Decides, LaidUpward, CanSweep, WithinSpans, ApartSpans};
 ghost use Rattle.lawful.specs.Loads.{Tallied};
 ghost use Rattle.lawful.specs.Sweep.{Swept, Passed};
 
@@ -28,7 +28,7 @@ pub fn within_limits(
     lo: &[usize; 256],
     hi: &[usize; 256],
 ) -> bool
-    requires { ⌜ (spans ≤ 64) × Between count (now lo) (now hi) ⌝ }
+    requires { ⌜ (spans ≤ 64) × LaidUpward count (now lo) (now hi) ⌝ }
     ensures { λ r. ⌜ Decides r (WithinSpans spans (now (limits .entry)) count (now (lo .entry)) (now (hi .entry))) ⌝ }
 {
     let mut begins = [0usize; 64];

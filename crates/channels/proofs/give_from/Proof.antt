@@ -57,7 +57,7 @@ loop-again c =
     )
 
 returns-2 : tie.Need-returns-2 Inv-loop μ-loop
-returns-2 c = let last = c .before .loop in record { all = refl; next = λ cells s. stage-next (omega arith) (last .inv .0) (last .inv .2 cells s) }
+returns-2 c = let last = c .before .loop in record { all = refl; next = λ cells s. stage-next (last .inv .2 cells s) (omega arith) (last .inv .0) }
 
 pub give-from-spec : {M : Type 1} → statement M
 give-from-spec =

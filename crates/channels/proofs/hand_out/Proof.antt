@@ -1,4 +1,4 @@
--- `channels::hand_out` meets its contract. With every channel 0 it is the turn of node 0; each node's turn ends in the next one's (`Turned` of specs/Stages),
+-- `channels::hand_out` meets its contract. With every channel 0 it is the turn of node 0; each node's turn ends in the next one's (`NodeGiven` of specs/Stages),
 -- and past the last cell every kept one has its channel. That one finds none left is never the answer. Each turn leaves one node fewer. Assumes nothing.
 use mathlib.Core.Path.{_≡_, _∙_}
 use Prim.Native.Nat.{ℕ, _-_, _≤_}

@@ -19,7 +19,7 @@ within-limits-requires : tie.Need-within-limits-requires
 within-limits-requires c κs =
     let laid = c .before .before in
     let start = laid .before .before .before .before .before .before .before in
-    (omega arith, can-sweep (start .pre .1 .0) (start .pre .1 .1) (laid .before .lay .ensures .laid (not-false _ (laid .if1 .left))) .between)
+    (omega arith, can-sweep (start .pre .1 .0) (start .pre .1 .1) (laid .before .lay .ensures .laid (not-false _ (laid .if1 .left))) .laid)
 
 returns-2 : tie.Need-returns-2
 returns-2 c book drawn k =

@@ -18,7 +18,7 @@ abbrev μ-loop : tie.MeasureT-loop
 μ-loop spans count lo hi crossing channel first after ends₀ v₀ ends v = spans - v
 
 begin-lists-requires : tie.Need-begin-lists-requires Inv-loop μ-loop
-begin-lists-requires c κs = let can = c .before .before .pre .1 in (begin-below 128 (omega arith) (can .between), listed-none (can .between .in-line .few))
+begin-lists-requires c κs = let can = c .before .before .pre .1 in (begin-below 128 (omega arith) (can .laid), listed-none (can .laid .in-line .few))
 
 loop-holds : tie.Need-loop-holds Inv-loop μ-loop
 loop-holds c = (omega arith, swept-start (c .before .before .before .pre .1))
