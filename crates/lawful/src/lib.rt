@@ -51,7 +51,7 @@ fn formed(channels: usize, a: usize, b: usize, entry: usize) -> bool
     channel <= channels
 }
 
-// The number of a request that is kept, or 0.
+// A value that belongs to a request, such as an end or a profit, where its entry keeps it; else 0.
 pub fn where_kept(value: usize, entry: usize) -> usize
     ensures { λ r. ⌜ r ≡ when (not (eqb entry 0)) value ⌝ }
 {

@@ -1,5 +1,5 @@
-// Judging one record by its fields, which are numbers: a test for each clause of document 01's rows 2 to 11, lowest row first. The answer is the
-// row, or 12 where the record breaks none.
+// Judging by numbers. The byte count of a file is row 1 of document 01. A record is judged by its fields: a test for each clause of rows 2 to 11, lowest
+// row first; the answer is the row, or 12 where the record breaks none.
 ghost use mathlib.Core.Path.{_≡_};
 ghost use Rattle.book.specs.Refusals.{countWrong};
 ghost use Rattle.records.specs.Tests.{lowest};

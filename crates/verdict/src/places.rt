@@ -1,4 +1,4 @@
-// The places of the lent lists (document 01, "What the desk plans"): an entry is two bytes and a price four, high byte first.
+// The places of the lent list of prices (document 01, "What the desk plans"): a price is four bytes, high byte first.
 ghost use mathlib.Core.Path.{_≡_};
 ghost use Prim.Native.Nat.{_+_, _*_, _≤_};
 ghost use lib.ListN.{length};
