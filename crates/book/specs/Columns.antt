@@ -4,6 +4,7 @@ use mathlib.Core.List.{List}
 use mathlib.Core.Path.{_≡_}
 use Prim.Native.Nat.{ℕ, _≤_, _<_}
 use native.Mathlib.Omega.{arith}
+use Rattle.sums.specs.At.{NumbersBelow}
 pub use Rattle.sums.specs.At.{at}
 use Rattle.book.specs.Book as Books
 use Rattle.book.specs.Book.{Book, spans, limit, endA, endB, profit}
@@ -28,6 +29,13 @@ module _ {book : Book} {count : ℕ} {limits a b profits : List ℕ} (sound : So
 
   pub b-node : (i : ℕ) → i < count → at b i < book .nodes
   b-node i l = omega (arith, holds .b-is i l, sound .b-node i (omega (arith, holds .counted)))
+
+  -- no book has more than 64 nodes
+  pub a-below : NumbersBelow 64 count a
+  a-below = record { few = few; below = λ i l. omega (arith, a-node i l, sound .nodes-upto) }
+
+  pub b-below : NumbersBelow 64 count b
+  b-below = record { few = few; below = λ i l. omega (arith, b-node i l, sound .nodes-upto) }
 
   pub ends-differ : (i : ℕ) → i < count → at a i ≡ at b i → ⊥
   ends-differ i l e = sound .ends-differ i (omega (arith, holds .counted)) (omega (arith, e, holds .a-is i l, holds .b-is i l))

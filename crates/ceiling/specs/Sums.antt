@@ -7,7 +7,7 @@ use native.Mathlib.Omega.{arith}
 use Rattle.sums.specs.Sums.{Σ, Σ-ext, Σ-most}
 use Rattle.book.specs.Book as Books
 use Rattle.book.specs.Book.{limit, profit}
-use Rattle.book.specs.Columns.{at}
+use Rattle.book.specs.Columns.{at, a-below, b-below}
 use Rattle.rules.specs.Prices.{ceiling}
 use Rattle.row.specs.Row as Row
 use Rattle.row.specs.Row.{fare}
@@ -17,7 +17,7 @@ use Rattle.lines.specs.Ceiling.{ceiling-row}
 use Rattle.lines.specs.HeldLine.{few-spans, few, a-in, b-in, profits-in, limit-in}
 use Rattle.ceiling.specs.PricedLine.{PricedLine}
 use Rattle.ceiling.specs.Tolls.{Payable, Tolled, rent-upto}
-use Rattle.ceiling.specs.Surplus.{fareAt, Tallies}
+use Rattle.ceiling.specs.Surplus.{gainAt, CanSum}
 
 module _ {spans count : ℕ} {limits a b profits prices : List ℕ} (w : PricedLine spans count limits a b profits prices) where
   pub payable : Payable spans limits prices
@@ -32,19 +32,19 @@ module _ {spans count : ℕ} {limits a b profits prices : List ℕ} (w : PricedL
         (rw (w .held .holds .a-is i l, w .held .holds .b-is i l)
         (fare-along (rowOf (w .book)) (at prices) i (omega arith) (omega (arith, a-in (w .held) i l, b-in (w .held) i l, w .held .holds .a-is i l, w .held .holds .b-is i l, w .held .spans-is))))
 
-    pub tallies : Tallies count a b profits toll
-    tallies = record {
-      a-in = record { few = few (w .held); below = λ i l. omega (arith, a-in (w .held) i l, few-spans (w .held)) };
-      b-in = record { few = few (w .held); below = λ i l. omega (arith, b-in (w .held) i l, few-spans (w .held)) };
+    pub can-sum : CanSum count a b profits toll
+    can-sum = record {
+      a-in = a-below (w .held .line .sound) (w .held .holds);
+      b-in = b-below (w .held .line .sound) (w .held .holds);
       profits-in = profits-in (w .held);
       rising = λ i l. omega (arith, fare-tolls i l);
     }
 
-    module _ {surplus : ℕ} (tallied : surplus ≡ Σ count (λ i. at profits i - fareAt a b toll i)) where
+    module _ {surplus : ℕ} (summed : surplus ≡ Σ count (gainAt a b profits toll)) where
       surplus-are : Σ (Books.count (w .book)) (λ i. profit (w .book) i - fare (rowOf (w .book)) (at prices) i) ≡ surplus
       surplus-are =
           rw (← w .held .holds .counted)
-          (Σ-ext count _ _ (λ i l. omega (arith, w .held .holds .profit-is i l, fare-tolls i l)) ∙ sym tallied)
+          (Σ-ext count _ _ (λ i l. omega (arith, w .held .holds .profit-is i l, fare-tolls i l)) ∙ sym summed)
 
       rents : Σ (Books.spans (w .book)) (λ s. limit (w .book) s * at prices s) ≡ rented
       rents =
@@ -62,8 +62,8 @@ module _ {spans count : ℕ} {limits a b profits prices : List ℕ} (w : PricedL
             arith,
             few (w .held),
             few-spans (w .held),
-            tallied,
+            summed,
             tolled .rent-is,
-            Σ-most count (λ i. at profits i - fareAt a b toll i) 1000000 (λ i l. omega (arith, profits-in (w .held) .upto i l)),
+            Σ-most count (gainAt a b profits toll) 1000000 (λ i l. omega (arith, profits-in (w .held) .upto i l)),
             Σ-most spans (λ s. at limits s * at prices s) 96000000 (λ s l. rent-upto _ _ (limit-in (w .held) s l) (w .price-upto s l)),
           )

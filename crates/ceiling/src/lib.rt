@@ -7,7 +7,7 @@ ghost use Rattle.book.specs.Columns.{at};
 ghost use Rattle.rules.specs.Prices.{ceiling};
 ghost use Rattle.ceiling.specs.PricedLine.{PricedLine};
 ghost use Rattle.ceiling.specs.Tolls.{Payable, Tolled};
-ghost use Rattle.ceiling.specs.Surplus.{fareAt, Tallies};
+ghost use Rattle.ceiling.specs.Surplus.{gainAt, CanSum};
 
 // The sum over spans of limit × price. On the way toll[v] becomes what the spans below node v cost together.
 fn rent(spans: usize, limits: &[usize; 64], prices: &[usize; 64], toll: &mut [usize; 64]) -> usize
@@ -46,8 +46,8 @@ fn surplus(
     profit: &[usize; 256],
     toll: &[usize; 64],
 ) -> usize
-    requires { ⌜ Tallies count (now a) (now b) (now profit) (now toll) ⌝ }
-    ensures { λ r. ⌜ r ≡ Σ count (λ i. at (now (profit .entry)) i - fareAt (now (a .entry)) (now (b .entry)) (now (toll .entry)) i) ⌝ }
+    requires { ⌜ CanSum count (now a) (now b) (now profit) (now toll) ⌝ }
+    ensures { λ r. ⌜ r ≡ Σ count (gainAt (now (a .entry)) (now (b .entry)) (now (profit .entry)) (now (toll .entry))) ⌝ }
 {
     let mut sum = 0;
     let mut i = 0;

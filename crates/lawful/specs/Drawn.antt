@@ -7,8 +7,9 @@ use Rattle.sums.specs.At.{NumbersBelow}
 use Rattle.sums.specs.Filled.{Filled}
 use Rattle.book.specs.Book as Books
 use Rattle.book.specs.Book.{Book, limit, endA, endB}
+use Rattle.book.specs.Columns.{a-below, b-below}
 use Rattle.lines.specs.Line.{Line}
-use Rattle.lines.specs.HeldLine.{HeldLine, few-spans, few, a-in, b-in}
+use Rattle.lines.specs.HeldLine.{HeldLine}
 
 -- an accepted line, its spans and requests counted, its limits and ends in columns
 pub record Drawn (book : Book) (spans : ℕ) (limits : List ℕ) (count : ℕ) (a b : List ℕ) : Type 0 where
@@ -36,7 +37,4 @@ drawn h = record {
 pub ends-below :
     {book : Book} {spans count : ℕ} {limits a b profits : List ℕ} → HeldLine book spans count limits a b profits
     → NumbersBelow 64 count a × NumbersBelow 64 count b
-ends-below h = (
-  record { few = few h; below = λ i l. omega (arith, a-in h i l, few-spans h) },
-  record { few = few h; below = λ i l. omega (arith, b-in h i l, few-spans h) },
-)
+ends-below h = (a-below (h .line .sound) (h .holds), b-below (h .line .sound) (h .holds))

@@ -12,7 +12,7 @@ use Rattle.sums.specs.Each.{decided, either, left-of}
 use Rattle.book.specs.Book as Books
 use Rattle.book.specs.Book.{Book, isRing, endA, endB}
 use Rattle.book.specs.Sound.{Sound}
-use Rattle.book.specs.Columns.{at, Holds, few, a-node, b-node}
+use Rattle.book.specs.Columns.{at, Holds, few, a-below, b-below}
 use Rattle.rules.specs.Ways.{wayExists}
 use Rattle.rules.specs.Plans.{Plan, kept, way, channel, obeys}
 use Rattle.lines.specs.Entries.{not-kept-zero}
@@ -40,7 +40,7 @@ pub fair-printable :
     → Sound book → Holds book count limits a b profits → obeys book (at entries) ≡ true → Printable count a b entries
 fair-printable {book} {entries} sound holds e =
     record {
-      a-in = record { few = few sound holds; below = λ i h. omega (arith, a-node sound holds i h, sound .nodes-upto) };
-      b-in = record { few = few sound holds; below = λ i h. omega (arith, b-node sound holds i h, sound .nodes-upto) };
+      a-in = a-below sound holds;
+      b-in = b-below sound holds;
       entries-in = record { few = few sound holds; upto = λ i h. entry-small book (at entries) i sound (obeys-fair book (at entries) e) (omega (arith, holds .counted)) };
     }

@@ -1,6 +1,6 @@
 -- `ceiling::ceiling_of` meets its contract: the sum over the spans and the sum over the requests are the two parts of the ceiling. Assumes nothing.
 use native.Mathlib.Omega.{arith}
-use Rattle.ceiling.specs.Sums.{payable, tallies, ceiling-is, sum-fits}
+use Rattle.ceiling.specs.Sums.{payable, can-sum, ceiling-is, sum-fits}
 use Rattle.ceiling.proofs.ceiling_of.Statement.{statement}
 use Rattle.ceiling.proofs.ceiling_of.Tie as tie
 
@@ -8,7 +8,7 @@ rent-requires : tie.Need-rent-requires
 rent-requires c κs = payable (c .before .pre)
 
 surplus-requires : tie.Need-surplus-requires
-surplus-requires c κs = tallies (c .before .before .before .pre) (c .before .rent .ensures)
+surplus-requires c κs = can-sum (c .before .before .before .pre) (c .before .rent .ensures)
 
 add-result : tie.Need-add-result
 add-result c = omega (arith, sum-fits (c .before .before .before .before .pre) (c .before .before .rent .ensures) (c .surplus .ensures))
