@@ -1,6 +1,7 @@
 -- What turning a ring's columns along the line which a cut leaves asks and promises. Assumes nothing.
 use mathlib.Core.List.{List}
 use Prim.Native.Nat.{ℕ, _+_, _-_, _≤_, _<_}
+use Rattle.sums.specs.At.{NumbersBelow}
 use Rattle.sums.specs.Filled.{Filled}
 use Rattle.book.specs.Columns.{at}
 use Rattle.rules.specs.Cuts.{steps, spanAt}
@@ -9,8 +10,7 @@ use Rattle.rules.specs.Cuts.{steps, spanAt}
 pub record Nodes (n j count : ℕ) (ends : List ℕ) : Type 0 where
   pub cut-in : j < n
   pub n-upto : n ≤ 64
-  pub count-upto : count ≤ 256
-  pub are-nodes : (i : ℕ) → i < count → at ends i < n
+  pub are-nodes : NumbersBelow n count ends
 
 -- the ring's columns along the line which cut j leaves
 pub record Turned (n j count : ℕ) (limits a b limit from to : List ℕ) : Type 0 where

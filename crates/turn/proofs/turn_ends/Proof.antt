@@ -19,7 +19,7 @@ loop-holds : tie.Need-loop-holds Inv-loop μ-loop
 loop-holds c = (omega arith, omega arith, refl, filled-none _ _)
 
 steps-requires : tie.Need-steps-requires Inv-loop μ-loop
-steps-requires c κs = let p = c .before .before .before .before .before in omega (arith, p .pre .are-nodes (c .before .before .loop .i) (omega arith))
+steps-requires c κs = let p = c .before .before .before .before .before in omega (arith, p .pre .are-nodes .below (c .before .before .loop .i) (omega arith))
 
 loop-again : tie.Need-loop-again Inv-loop μ-loop
 loop-again c = let l = c .before .before .before .loop in (omega arith, length-set (l .turned) (l .i) _ ∙ l .inv .1, refl, filled-more (c .steps .result) (l .inv .3) (omega arith) (c .steps .ensures))
