@@ -15,7 +15,7 @@ use Rattle.book.specs.Bytes.{byte, blank}
 use Rattle.book.specs.Book.{Book}
 use Rattle.book.specs.Refusals.{start, records, present, kindIn, markIn, numberIn, shapeIn, nodesIn, channelsIn, spansIn, limitIn, aIn, bIn, profitIn, known, fewest, countWrong, networkWrong, nodesWrong, channelsWrong, spanWrong, markWrong, limitWrong, tooMany, requestWrong, endsWrong, profitWrong, rows, broken, shortOf}
 use Rattle.book.specs.Reading.{done, refused, due, reading}
-use Rattle.book.specs.Laws.{Given, span-looked-at, refused-given, given-refused, broken-unread}
+use Rattle.book.specs.Laws.{Unbroken, Clean, Given, span-looked-at, refused-given, given-refused, broken-unread}
 use Rattle.book.specs.Means.{less, at-most, same, not-less, not-so, is-not, and, or, or₃, or₄, to-the-right, not-each, and₃}
 
 -- one of the n bytes from an offset on is not 0
@@ -29,12 +29,19 @@ not-blank f at n = not-each (λ i. same)
 -- ---- record 0, the network
 
 -- 1: the byte count is 0, not a multiple of 16, or above 5,136
+abbrev pub CountWrong : ℕ → Type 0
+CountWrong bytes = (bytes ≡ 0) ⊎ (bytes % 16 ≡ 0 → ⊥) ⊎ (5136 < bytes)
+
+pub count-wrong : {bytes : ℕ} → countWrong bytes ≡ true ↔ CountWrong bytes
+unfolding countWrong
+count-wrong = or₃ same (is-not same) less
+
 abbrev pub Row1 : List ℕ → ℕ → Type 0
-Row1 f r = (r ≡ 0) × ((length f ≡ 0) ⊎ (length f % 16 ≡ 0 → ⊥) ⊎ (5136 < length f))
+Row1 f r = (r ≡ 0) × CountWrong (length f)
 
 pub row-1 : (f : List ℕ) (r : ℕ) → broken f r 1 ≡ true ↔ Row1 f r
-unfolding rows countWrong
-row-1 f r = and same (or₃ same (is-not same) less)
+unfolding rows
+row-1 f r = and same count-wrong
 
 -- 2: record 0: byte 0 or the shape is wrong, or bytes 6–15 not all 0
 abbrev pub Row2 : List ℕ → ℕ → Type 0
@@ -59,6 +66,23 @@ too-few n shape = by (eqb shape 2) refl
 pub row-3 : (f : List ℕ) (r : ℕ) → broken f r 3 ≡ true ↔ Row3 f r
 unfolding rows nodesWrong
 row-3 f r = and same (Iff·trans (or (too-few (nodesIn f) (shapeIn f)) less) to-the-right)
+
+-- where it is not broken the nodes are within the range
+pub record NodesInRange (f : List ℕ) : Type 0 where
+  pub from : 2 ≤ nodesIn f
+  pub ring-from : shapeIn f ≡ 2 → 3 ≤ nodesIn f
+  pub upto : nodesIn f ≤ 64
+
+pub nodes-in-range : (f : List ℕ) → broken f 0 3 ≡ false → NodesInRange f
+nodes-in-range f e =
+    record {
+      from = not-above (λ l. not3 (refl, inl l));
+      ring-from = λ ring. not-above (λ l. not3 (refl, inr (inl (ring, l))));
+      upto = not-above (λ l. not3 (refl, inr (inr l)));
+    }
+  where
+    not3 : Row3 f 0 → ⊥
+    not3 = not-so (row-3 f 0) .0 e
 
 -- 4: k outside 1 to 96
 abbrev pub Row4 : List ℕ → ℕ → Type 0
@@ -156,12 +180,8 @@ long-lists = Iff·trans (not-so (row-12 _ _ _ _ _)) (
 
 -- ---- "A span left out, a limit not marked as read on site, or one above the channel count, is refused" (demand 1)
 
--- every record before r breaks no row
-abbrev pub CleanBefore : List ℕ → ℕ → Type 0
-CleanBefore f r = (q m : ℕ) → q < r → m < 12 → broken f q m ≡ false
-
 -- where a span is due the network's rows are not broken
-not-network : (f : List ℕ) (r : ℕ) → 0 < r → (m : ℕ) → m < 5 → broken f r m ≡ false
+not-network : (f : List ℕ) (r : ℕ) → 0 < r → Unbroken f r 5
 unfolding rows
 not-network f r h zero l = refl
 not-network f r h (suc zero) l = not-so (row-1 f r) .1 (λ w. omega arith)
@@ -170,21 +190,21 @@ not-network f r h (suc (suc (suc zero))) l = not-so (row-3 f r) .1 (λ w. omega 
 not-network f r h (suc (suc (suc (suc zero)))) l = not-so (row-4 f r) .1 (λ w. omega arith)
 not-network f r h (suc (suc (suc (suc (suc m))))) l = absurd (omega arith)
 
-at-span : (f : List ℕ) (n r : ℕ) → r ≤ spansIn f → n < 12 → broken f r n ≡ true → ((m : ℕ) → m < n → broken f r m ≡ false) → CleanBefore f r → reading f ≡ refused n r
+at-span : (f : List ℕ) (n r : ℕ) → r ≤ spansIn f → n < 12 → broken f r n ≡ true → Unbroken f r n → Clean f r → reading f ≡ refused n r
 at-span f n r l t here lower before =
     given-refused f n r (record { in-table = t; looked-at = span-looked-at f r l; here = here; lower = lower; before = before })
 
 -- rows 1 to 5 are not broken
-below-6 : (f : List ℕ) (r : ℕ) → 0 < r → (Row5 f r → ⊥) → (m : ℕ) → m < 6 → broken f r m ≡ false
+below-6 : (f : List ℕ) (r : ℕ) → 0 < r → (Row5 f r → ⊥) → Unbroken f r 6
 below-6 f r h not5 = below-more (λ m. broken f r m ≡ false) 5 (not-network f r h) (not-so (row-5 f r) .1 not5)
 
-pub span-missing-refused : (f : List ℕ) (r : ℕ) → 0 < r → r ≤ spansIn f → records f ≤ r → CleanBefore f r → reading f ≡ refused 5 r
+pub span-missing-refused : (f : List ℕ) (r : ℕ) → 0 < r → r ≤ spansIn f → records f ≤ r → Clean f r → reading f ≡ refused 5 r
 span-missing-refused f r h l missing = at-span f 5 r l (omega arith) (row-5 f r .1 (h, l, inl missing)) (not-network f r h)
 
-pub mark-refused : (f : List ℕ) (r : ℕ) → Row6 f r → (Row5 f r → ⊥) → CleanBefore f r → reading f ≡ refused 6 r
+pub mark-refused : (f : List ℕ) (r : ℕ) → Row6 f r → (Row5 f r → ⊥) → Clean f r → reading f ≡ refused 6 r
 mark-refused f r w not5 = at-span f 6 r (w .1) (omega arith) (row-6 f r .1 w) (below-6 f r (w .0) not5)
 
-pub limit-above-refused : (f : List ℕ) (r : ℕ) → Row7 f r → (Row5 f r → ⊥) → (Row6 f r → ⊥) → CleanBefore f r → reading f ≡ refused 7 r
+pub limit-above-refused : (f : List ℕ) (r : ℕ) → Row7 f r → (Row5 f r → ⊥) → (Row6 f r → ⊥) → Clean f r → reading f ≡ refused 7 r
 limit-above-refused f r w not5 not6 =
     at-span f 7 r (w .1) (omega arith) (row-7 f r .1 w) (below-more (λ m. broken f r m ≡ false) 6 (below-6 f r (w .0) not5) (not-so (row-6 f r) .1 not6))
 
@@ -210,4 +230,4 @@ too-many-place f p e = (omega (arith, past, not-past), omega (arith, past, g .lo
     past = row-8 f p .0 (g .here)
 
     not-past : 1 + spansIn f + 256 < p → ⊥
-    not-past h = not-so (row-8 f (1 + spansIn f + 256)) .0 (g .before (1 + spansIn f + 256) 8 h (omega arith)) (omega arith)
+    not-past h = not-so (row-8 f (1 + spansIn f + 256)) .0 (g .before (1 + spansIn f + 256) h 8 (omega arith)) (omega arith)

@@ -13,13 +13,21 @@ use Rattle.book.specs.Book.{Book}
 use Rattle.book.specs.Refusals.{records, spansIn, broken, fault, faulty}
 use Rattle.book.specs.Reading.{done, refused, due, bookOf, faultyRecord, reading, refused-not-done}
 
+-- record r breaks none of the rows below n
+abbrev pub Unbroken : List ℕ → ℕ → ℕ → Type 0
+Unbroken f r n = (m : ℕ) → m < n → broken f r m ≡ false
+
+-- no record before record r breaks a row
+abbrev pub Clean : List ℕ → ℕ → Type 0
+Clean f r = (q : ℕ) → q < r → Unbroken f q 12
+
 -- row n is broken at record p, and nothing earlier in file order, nor lower in that record, is
 pub record Given (f : List ℕ) (n p : ℕ) : Type 0 where
   pub in-table : n < 12
   pub looked-at : p < due f
   pub here : broken f p n ≡ true
-  pub lower : (m : ℕ) → m < n → broken f p m ≡ false
-  pub before : (r m : ℕ) → r < p → m < 12 → broken f r m ≡ false
+  pub lower : Unbroken f p n
+  pub before : Clean f p
 
 -- every span is looked at, present or missing (and the network, record 0), and every record that is present
 pub span-looked-at : (f : List ℕ) (r : ℕ) → r ≤ spansIn f → r < due f
@@ -33,21 +41,17 @@ present-looked-at f r h = omega arith
 -- ---- the two searches
 
 -- a record that is not faulty breaks no row, and one that breaks no row is not faulty
-pub unbroken : (f : List ℕ) (r : ℕ) → faulty f r ≡ false → (m : ℕ) → m < 12 → broken f r m ≡ false
+pub unbroken : (f : List ℕ) (r : ℕ) → faulty f r ≡ false → Unbroken f r 12
 unfolding fault
 unbroken f r e m h = before-first 12 (broken f r) m (omega (arith, ltb-false (fault f r) 12 e))
 
-pub faultless : (f : List ℕ) (r : ℕ) → ((m : ℕ) → m < 12 → broken f r m ≡ false) → faulty f r ≡ false
+faultless : (f : List ℕ) (r : ℕ) → Unbroken f r 12 → faulty f r ≡ false
 unfolding fault
 faultless f r none = le-ltb (fault f r) 12 (omega (arith, first-none 12 (broken f r) none))
 
--- no record before record r is faulty
-abbrev pub Clean : List ℕ → ℕ → Type 0
-Clean f r = (q : ℕ) → q < r → faulty f q ≡ false
-
 clean-upto : (f : List ℕ) → Clean f (faultyRecord f)
 unfolding faultyRecord
-clean-upto f = before-first (due f) (faulty f)
+clean-upto f q h = unbroken f q (before-first (due f) (faulty f) q h)
 
 -- ---- what the reading comes to
 
@@ -70,13 +74,13 @@ found f h =
       looked-at = h;
       here = first-passes 12 (broken f q) l;
       lower = before-first 12 (broken f q);
-      before = λ r m k. unbroken f r (clean-upto f r k) m;
+      before = clean-upto f;
     }
 
 -- the first faulty record gives the refusal
 pub first-fault : (f : List ℕ) (r : ℕ) → r < due f → fault f r < 12 → Clean f r → reading f ≡ refused (fault f r) r
 unfolding reading faultyRecord
-first-fault f r h l clean = rw (first-here (due f) (faulty f) r (omega arith) clean (λ _. lt-ltb (fault f r) 12 l), lt-ltb r (due f) h)
+first-fault f r h l clean = rw (first-here (due f) (faulty f) r (omega arith) (λ q k. faultless f q (clean q k)) (λ _. lt-ltb (fault f r) 12 l), lt-ltb r (due f) h)
 
 -- ---- the laws
 
@@ -93,18 +97,18 @@ pub given-refused : (f : List ℕ) (n p : ℕ) → Given f n p → reading f ≡
 unfolding fault
 given-refused f n p g =
     let row : fault f p ≡ n = first-here 12 (broken f p) n (omega arith) (g .lower) (λ _. g .here) in
-    first-fault f p (g .looked-at) (omega arith) (λ r h. faultless f r (λ m. g .before r m h)) ∙ rw row
+    first-fault f p (g .looked-at) (omega arith) (g .before) ∙ rw row
 
-pub read-clean : (f : List ℕ) (book : Book) → reading f ≡ done book → (book ≡ bookOf f) × ((r m : ℕ) → r < due f → m < 12 → broken f r m ≡ false)
+pub read-clean : (f : List ℕ) (book : Book) → reading f ≡ done book → (book ≡ bookOf f) × Clean f (due f)
 read-clean f book e = ⊎-elim (λ h. absurd (refused-not-done (sym (stopped f h) ∙ e))) clean (less-or-not (faultyRecord f) (due f))
   where
-    clean : due f ≤ faultyRecord f → (book ≡ bookOf f) × ((r m : ℕ) → r < due f → m < 12 → broken f r m ≡ false)
-    clean h = (cc (finished f h), λ r m l. unbroken f r (clean-upto f r (omega arith)) m)
+    clean : due f ≤ faultyRecord f → (book ≡ bookOf f) × Clean f (due f)
+    clean h = (cc (finished f h), λ r l. clean-upto f r (omega arith))
 
 pub clean-read : (f : List ℕ) → Clean f (due f) → reading f ≡ done (bookOf f)
 unfolding faultyRecord
-clean-read f clean = finished f (omega (arith, first-none (due f) (faulty f) clean))
+clean-read f clean = finished f (omega (arith, first-none (due f) (faulty f) (λ q k. faultless f q (clean q k))))
 
 -- a broken row anywhere among the records looked at: no book is read, whatever else the file holds
 pub broken-unread : (f : List ℕ) (r n : ℕ) → r < due f → n < 12 → broken f r n ≡ true → (book : Book) → reading f ≡ done book → ⊥
-broken-unread f r n h l e book d = of-yes (sym (read-clean f book d .1 r n h l) ∙ e)
+broken-unread f r n h l e book d = of-yes (sym (read-clean f book d .1 r h n l) ∙ e)

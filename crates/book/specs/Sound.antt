@@ -11,11 +11,11 @@ use lib.Dec.{eqb}
 use Rattle.sums.specs.Each.{same-or-not, not-above}
 use Rattle.sums.specs.Table.{length-table, table-at}
 use Rattle.book.specs.Book.{Book, Request, spansOf, spans, limit, count, request, endA, endB, profit}
-use Rattle.book.specs.Refusals.{records, shapeIn, spansIn, limitIn, aIn, bIn, profitIn, broken}
+use Rattle.book.specs.Refusals.{records, shapeIn, spansIn, limitIn, aIn, bIn, profitIn}
 use Rattle.book.specs.Reading.{done, due, requestOf, bookOf, reading}
-use Rattle.book.specs.Laws.{span-looked-at, present-looked-at, read-clean}
+use Rattle.book.specs.Laws.{Unbroken, Clean, span-looked-at, present-looked-at, read-clean}
 use Rattle.book.specs.Means.{not-so}
-use Rattle.book.specs.InWords.{Row2, Row3, Row4, Row7, Row8, Row10, Row11, row-2, row-3, row-4, row-7, row-8, row-10, row-11}
+use Rattle.book.specs.InWords.{Row2, Row4, Row7, Row8, Row10, Row11, NodesInRange, nodes-in-range, row-2, row-4, row-7, row-8, row-10, row-11}
 
 pub record Sound (book : Book) : Type 0 where
   pub shaped : (book .shape ≡ 1) ⊎ (book .shape ≡ 2)
@@ -88,33 +88,33 @@ module _ (f : List ℕ) (i : ℕ) (h : i < count (bookOf f)) where
 
 -- ---- the rows that are not broken
 
-module _ (f : List ℕ) (clean : (r m : ℕ) → r < due f → m < 12 → broken f r m ≡ false) where
-  of-network : (m : ℕ) → m < 12 → broken f 0 m ≡ false
-  of-network m = clean 0 m (span-looked-at f 0 (omega arith))
+module _ (f : List ℕ) (clean : Clean f (due f)) where
+  of-network : Unbroken f 0 12
+  of-network = clean 0 (span-looked-at f 0 (omega arith))
 
-  of-request : (i m : ℕ) → i < count (bookOf f) → m < 12 → broken f (recordOf f i) m ≡ false
-  of-request i m h = clean (recordOf f i) m (present-looked-at f (recordOf f i) (omega (arith, count-read f)))
+  of-request : (i : ℕ) → i < count (bookOf f) → Unbroken f (recordOf f i) 12
+  of-request i h = clean (recordOf f i) (present-looked-at f (recordOf f i) (omega (arith, count-read f)))
 
   not2 : Row2 f 0 → ⊥
   not2 = not-so (row-2 f 0) .0 (of-network 2 (omega arith))
 
-  not3 : Row3 f 0 → ⊥
-  not3 = not-so (row-3 f 0) .0 (of-network 3 (omega arith))
+  nodes : NodesInRange f
+  nodes = nodes-in-range f (of-network 3 (omega arith))
 
   not4 : Row4 f 0 → ⊥
   not4 = not-so (row-4 f 0) .0 (of-network 4 (omega arith))
 
   not7 : (s : ℕ) → s < spansIn f → Row7 f (1 + s) → ⊥
-  not7 s h = not-so (row-7 f (1 + s)) .0 (clean (1 + s) 7 (span-looked-at f (1 + s) (omega arith)) (omega arith))
+  not7 s h = not-so (row-7 f (1 + s)) .0 (clean (1 + s) (span-looked-at f (1 + s) (omega arith)) 7 (omega arith))
 
   not8 : (i : ℕ) → i < count (bookOf f) → Row8 f (recordOf f i) → ⊥
-  not8 i h = not-so (row-8 f (recordOf f i)) .0 (of-request i 8 h (omega arith))
+  not8 i h = not-so (row-8 f (recordOf f i)) .0 (of-request i h 8 (omega arith))
 
   not10 : (i : ℕ) → i < count (bookOf f) → Row10 f (recordOf f i) → ⊥
-  not10 i h = not-so (row-10 f (recordOf f i)) .0 (of-request i 10 h (omega arith))
+  not10 i h = not-so (row-10 f (recordOf f i)) .0 (of-request i h 10 (omega arith))
 
   not11 : (i : ℕ) → i < count (bookOf f) → Row11 f (recordOf f i) → ⊥
-  not11 i h = not-so (row-11 f (recordOf f i)) .0 (of-request i 11 h (omega arith))
+  not11 i h = not-so (row-11 f (recordOf f i)) .0 (of-request i h 11 (omega arith))
 
   -- ---- one row a field
 
@@ -126,9 +126,9 @@ module _ (f : List ℕ) (clean : (r m : ℕ) → r < due f → m < 12 → broken
   sound-of =
       record {
         shaped = shape-known;
-        nodes-from = not-above (λ l. not3 (refl, inl l));
-        ring-from = λ e. not-above (λ l. not3 (refl, inr (inl (e, l))));
-        nodes-upto = not-above (λ l. not3 (refl, inr (inr l)));
+        nodes-from = nodes .from;
+        ring-from = nodes .ring-from;
+        nodes-upto = nodes .upto;
         channels-from = not-above (λ l. not4 (refl, inl (omega arith)));
         channels-upto = not-above (λ l. not4 (refl, inr l));
         limits-count = length-table (spansIn f) (λ s. limitIn f (1 + s));

@@ -1,19 +1,19 @@
 -- The ways out of reading a book. A refused record is the first faulty one, since every record before it was got; where all were got, no record
 -- that is looked at is faulty. Assumes nothing.
-use mathlib.Core.Path.{_≡_, refl, ap, subst, _∙_}
-use mathlib.Core.Bool.{true, false}
+use mathlib.Core.Path.{_≡_, ap, subst, _∙_}
+use mathlib.Core.Bool.{true}
 use mathlib.Core.List.{List}
-use mathlib.Core.Logic.{inl, inr, ⊎-elim}
+use mathlib.Core.Logic.{inl, ⊎-elim}
 use Prim.Native.Nat.{ℕ, _+_, _-_, _≤_, _<_}
 use native.Mathlib.Omega.{arith}
 use lib.ListN.{length, drop}
 use lib.Dec.{ltb}
-use Rattle.sums.specs.Each.{less-or-not, not-above, decided, of-yes}
-use Rattle.book.specs.Refusals.{start, records, shapeIn, nodesIn, channelsIn, spansIn, fault, faulty}
+use Rattle.sums.specs.Each.{less-or-not, decided, of-yes}
+use Rattle.book.specs.Refusals.{start, records, shapeIn, nodesIn, channelsIn, spansIn, fault}
 use Rattle.book.specs.Reading.{done, refused, due, bookOf, reading}
-use Rattle.book.specs.Laws.{Clean, unbroken, first-fault, clean-read, span-looked-at, present-looked-at}
+use Rattle.book.specs.Laws.{Unbroken, Clean, unbroken, first-fault, clean-read, span-looked-at, present-looked-at}
 use Rattle.book.specs.Means.{not-so}
-use Rattle.book.specs.InWords.{Row3, Row5, row-3, row-5}
+use Rattle.book.specs.InWords.{Row5, row-5, NodesInRange, nodes-in-range}
 use Rattle.book.specs.Sound.{spans-least, spans-small}
 use Rattle.records.specs.declared.Refusal.{Refusal}
 use Rattle.records.specs.declared.Reading.{Reading}
@@ -35,13 +35,13 @@ module _ (f : List ℕ) (row r : ℕ) (got : Record) (is : row ≡ fault f r) wh
       let w = answer-refused row r got refusal e in
       first-fault f r h (omega (arith, w .0)) clean ∙ rw (w .1, w .2, is)
 
-  got-clean : isGot (answer row r got) ≡ true → faulty f r ≡ false
+  got-clean : isGot (answer row r got) ≡ true → Unbroken f r 12
   unfolding answer
-  got-clean e = ⊎-elim (λ t. absurd (of-yes (rw t at e))) (λ t. rw is at t) (decided (ltb row 12))
+  got-clean e = unbroken f r (⊎-elim (λ t. absurd (of-yes (rw t at e))) (λ t. rw is at t) (decided (ltb row 12)))
 
 -- the records got after record b
-clean-on : (f : List ℕ) (b n : ℕ) → Clean f b → ((i : ℕ) → i < n → faulty f (b + i) ≡ false) → Clean f (b + n)
-clean-on f b n before on q h = ⊎-elim (before q) (λ l. subst (λ (r : ℕ). faulty f r ≡ false) (omega arith) (on (q - b) (omega arith))) (less-or-not q b)
+clean-on : (f : List ℕ) (b n : ℕ) → Clean f b → ((i : ℕ) → i < n → Unbroken f (b + i) 12) → Clean f (b + n)
+clean-on f b n before on q h = ⊎-elim (before q) (λ l. subst (λ (r : ℕ). Unbroken f r 12) (omega arith) (on (q - b) (omega arith))) (less-or-not q b)
 
 -- ---- the network
 
@@ -63,22 +63,16 @@ pub headed : (f : List ℕ) (got : Record) → networkRecordAt f ≡ Got got →
 unfolding networkRecordAt spansIn
 headed f got e =
     record {
-      clean = λ q h. subst (λ (r : ℕ). faulty f r ≡ false) (omega arith) whole;
-      least = omega (arith, spans-least (shapeIn f) (nodesIn f), from);
-      most = omega (arith, spans-small (shapeIn f) (nodesIn f), upto);
+      clean = λ q h. subst (λ (r : ℕ). Unbroken f r 12) (omega arith) whole;
+      least = omega (arith, spans-least (shapeIn f) (nodesIn f), nodes .from);
+      most = omega (arith, spans-small (shapeIn f) (nodesIn f), nodes .upto);
     }
   where
-    whole : faulty f 0 ≡ false
+    whole : Unbroken f 0 12
     whole = got-clean f (networkRow f) 0 _ (network-row f) (ap isGot e)
 
-    not3 : Row3 f 0 → ⊥
-    not3 = not-so (row-3 f 0) .0 (unbroken f 0 whole 3 (omega arith))
-
-    from : 2 ≤ nodesIn f
-    from = not-above (λ l. not3 (refl, inl l))
-
-    upto : nodesIn f ≤ 64
-    upto = not-above (λ l. not3 (refl, inr (inr l)))
+    nodes : NodesInRange f
+    nodes = nodes-in-range f (whole 3 (omega arith))
 
 -- ---- the spans
 
@@ -112,7 +106,7 @@ module _ (f : List ℕ) (h : Headed f) where
     part-there = ⊎-elim (λ l. omega arith) (λ l. absurd (not5 (h .least, omega arith, inl l))) (less-or-not (spansIn f) (records f))
       where
         not5 : Row5 f (spansIn f) → ⊥
-        not5 = not-so (row-5 f (spansIn f)) .0 (unbroken f (spansIn f) (spans-clean (spansIn f) (omega arith) spans (spansIn f) (omega arith)) 5 (omega arith))
+        not5 = not-so (row-5 f (spansIn f)) .0 (spans-clean (spansIn f) (omega arith) spans (spansIn f) (omega arith) 5 (omega arith))
 
     requests-clean : (n : ℕ) → AllGot (requestSays f) n → Clean f (1 + spansIn f + n)
     unfolding requestRecordAt

@@ -5,9 +5,10 @@ use mathlib.Core.List.{List}
 use mathlib.Core.Logic.{⊎-elim}
 use Prim.Native.Nat.{ℕ, _+_, _*_, _<_}
 use native.Mathlib.Omega.{arith}
-use borrow.Author.Tests.{eqb-true, eq-eqb}
+use borrow.Author.Tests.{eqb-true, eq-eqb, ne-eqb}
 use lib.Dec.{eqb}
-use Rattle.sums.specs.Each.{each-at, each-of, same-or-not, fails, same-test}
+use Rattle.sums.specs.Each.{each-at, each-of, same-or-not, same-test}
+use Rattle.sums.specs.Turns.{each-fails}
 use Rattle.book.specs.Bytes.{byte, two, four, blank}
 
 pub all-blank : (f : List ℕ) (at n : ℕ) → ((i : ℕ) → i < n → byte f (at + i) ≡ 0) → blank f at n ≡ true
@@ -16,7 +17,7 @@ all-blank f at n h = each-of n (λ i. eqb (byte f (at + i)) 0) (λ i l. eq-eqb _
 
 pub not-blank : (f : List ℕ) (at n i : ℕ) → i < n → (byte f (at + i) ≡ 0 → ⊥) → blank f at n ≡ false
 unfolding blank
-not-blank f at n i l h = fails (λ e. h (eqb-true _ 0 (each-at n (λ i. eqb (byte f (at + i)) 0) e i l)))
+not-blank f at n i l h = each-fails n (λ i. eqb (byte f (at + i)) 0) i l (ne-eqb _ 0 h)
 
 -- four bytes are all 0 exactly if their number is
 module _ (f : List ℕ) (at : ℕ) where

@@ -3,14 +3,15 @@
 use mathlib.Core.Path.{_≡_}
 use mathlib.Core.Bool.{Bool, true, false, not}
 use mathlib.Core.List.{List, [], _∷_}
-use mathlib.Core.Logic.{_⊎_, inl, inr, ⊎-elim}
-use Prim.Native.Nat.{ℕ, _%_, _<_, _≤_}
+use mathlib.Core.Logic.{inl, inr, ⊎-elim}
+use Prim.Native.Nat.{ℕ, _<_, _≤_}
 use native.Mathlib.Omega.{arith}
 use borrow.Author.Tests.{lt-ltb, le-ltb, eq-eqb, ne-eqb}
 use lib.Dec.{ltb, eqb}
 use Rattle.sums.specs.Each.{same-or-not, not-above}
 use Rattle.book.specs.Refusals.{known, fewest, countWrong}
-use Rattle.book.specs.Means as M
+use Rattle.book.specs.Means.{not-so}
+use Rattle.book.specs.InWords.{CountWrong, count-wrong}
 use Rattle.records.specs.declared.Network.{Network}
 use Rattle.records.specs.declared.Span.{Span}
 use Rattle.records.specs.declared.Request.{Request}
@@ -18,13 +19,12 @@ use Rattle.records.specs.Tests.{Test, _⇒_, found, passed, none}
 
 -- a right byte count is that of one record or more
 pub one-record : (bytes : ℕ) → countWrong bytes ≡ false → 16 ≤ bytes
-unfolding countWrong
 one-record bytes e = not-above (λ h. right (few h))
   where
-    right : (bytes ≡ 0) ⊎ (bytes % 16 ≡ 0 → ⊥) ⊎ (5136 < bytes) → ⊥
-    right = M.not-so (M.or₃ M.same (M.is-not M.same) M.less) .0 e
+    right : CountWrong bytes → ⊥
+    right = not-so count-wrong .0 e
 
-    few : bytes < 16 → (bytes ≡ 0) ⊎ (bytes % 16 ≡ 0 → ⊥) ⊎ (5136 < bytes)
+    few : bytes < 16 → CountWrong bytes
     few h = ⊎-elim (λ z. inl z) (λ n. inr (inl (λ m. n (omega arith)))) (same-or-not bytes 0)
 
 -- the network, whose byte count was right
