@@ -14,7 +14,7 @@ use Rattle.rules.specs.Prices.{ceiling}
 use Rattle.lines.specs.HeldLine.{profits-in}
 use Rattle.ceiling.specs.PricedLine.{PricedLine}
 use Rattle.ceiling.specs.Same.{ceiling-same}
-use Rattle.verdict.specs.Totals.{CanEarn}
+use Rattle.verdict.specs.Totals.{CanEarn, earning}
 use Rattle.verdict.specs.CanCheck.{CanCheck}
 
 module _ {spans count : ℕ} {limits a b profits entries prices : List ℕ} (w : CanCheck spans limits count a b profits entries prices) where
@@ -25,7 +25,7 @@ module _ {spans count : ℕ} {limits a b profits entries prices : List ℕ} (w :
     unfoldable pub priced-line : PricedLine spans count limits a b profits list
     priced-line = record { book = w .book; held = w .held; price-upto = λ s l. omega (arith, listed .is s l, w .price-upto s l) }
 
-    module _ {earned top : ℕ} (earned-is : earned ≡ Σ count (λ i. when (kept (entryIn entries) i) (at profits i))) (top-is : top ≡ ceiling (w .book) (at list)) where
+    module _ {earned top : ℕ} (earned-is : earned ≡ Σ count (earning profits (entryIn entries))) (top-is : top ≡ ceiling (w .book) (at list)) where
       earnings-are : earned ≡ earnings (w .book) (entryIn entries)
       unfolding earnings
       earnings-are =

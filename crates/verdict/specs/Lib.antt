@@ -3,5 +3,5 @@ pub mod Totals
 pub mod Balance
 pub mod Checked
 pub mod WaysOut
-pub mod Order
+pub mod OnTable
 pub mod Demand3

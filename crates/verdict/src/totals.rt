@@ -1,19 +1,18 @@
 // The earnings of a plan against the ceiling of a price list (document 01, "Prices and the checker").
 ghost use mathlib.Core.Path.{_≡_};
 ghost use lib.Dec.{eqb};
-ghost use Rattle.sums.specs.Sums.{Σ, when};
+ghost use Rattle.sums.specs.Sums.{Σ};
 ghost use Rattle.book.specs.Bytes.{entryIn, priceIn};
-ghost use Rattle.book.specs.Columns.{at};
-ghost use Rattle.rules.specs.Plans.{kept, earnings};
+ghost use Rattle.rules.specs.Plans.{earnings};
 ghost use Rattle.rules.specs.Prices.{ceiling};
-ghost use Rattle.verdict.specs.Totals.{CanEarn};
+ghost use Rattle.verdict.specs.Totals.{CanEarn, earning};
 ghost use Rattle.verdict.specs.CanCheck.{CanCheck};
 use crate::places;
 
 // What the plan earns.
 fn earned(count: usize, profits: &[usize; 256], entries: &[u8]) -> usize
     requires { ⌜ CanEarn count (now profits) (now entries) ⌝ }
-    ensures { λ r. ⌜ r ≡ Σ count (λ i. when (kept (entryIn (now (entries .entry))) i) (at (now (profits .entry)) i)) ⌝ }
+    ensures { λ r. ⌜ r ≡ Σ count (earning (now (profits .entry)) (entryIn (now (entries .entry)))) ⌝ }
 {
     let mut sum = 0;
     let mut i = 0;

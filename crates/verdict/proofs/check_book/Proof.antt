@@ -4,35 +4,38 @@ use native.Mathlib.Omega.{arith}
 use borrow.Author.Needs.{needs}
 use Rattle.book.specs.Reading.{done}
 use Rattle.verdict.specs.Checked.{checkedOf}
-use Rattle.verdict.specs.Order.{ring-refused, short-refused, prices-reach, dear-refused, can-check, verdict-given}
+use Rattle.verdict.specs.WaysOut.{ring-refused, short-refused}
+use Rattle.verdict.specs.OnTable.{line, short-is, prices-reach, refused-there, can-check, weighed}
 use Rattle.verdict.proofs.check_book.Statement.{statement}
 use Rattle.verdict.proofs.check_book.Tie as tie
 
 returns : tie.Need-returns
 unfolding checkedOf
-returns c h = ring-refused h _ _ (c .if1 .taken)
+returns c h = ring-refused (h .book) _ _ (h .shape-is ∙ c .if1 .taken)
 
 returns-2 : tie.Need-returns-2
 unfolding checkedOf
-returns-2 c h = short-refused h _ _ (c .before .before .before .if1 .left) _ (c .before .short .ensures) (c .if2 .taken)
+returns-2 c h =
+    let straight = c .before .before .before .if1 .left in
+    short-refused (line h straight) _ _ (short-is h straight _ _ (c .before .short .ensures) ∙ c .if2 .taken)
 
 dear-requires : tie.Need-dear-requires
 dear-requires c κs =
     let straight = c .before .before .before .if1 .left in
     let start = c .before .before .before .before .before .before .before in
-    omega (arith, prices-reach (start .pre) (start .args .entries .now) (start .args .prices .now) straight _ (c .before .short .ensures) (c .if2 .left))
+    omega (arith, prices-reach (start .pre) straight (start .args .entries .now) (start .args .prices .now) (c .before .short .ensures) (c .if2 .left))
 
 returns-3 : tie.Need-returns-3
 unfolding checkedOf
 returns-3 c h =
     let long = c .before .before in
-    dear-refused h _ _ (long .before .before .before .if1 .left) _ (long .before .short .ensures) (long .if2 .left) _ (c .before .dear .ensures) (c .if3 .taken)
+    refused-there h (long .before .before .before .if1 .left) _ _ (long .before .short .ensures) (long .if2 .left) (c .before .dear .ensures) (c .if3 .taken)
 
 weigh-requires : tie.Need-weigh-requires
 weigh-requires c κs =
     let long = c .before .before in
     let start = long .before .before .before .before .before .before .before in
-    can-check (start .pre) _ _ (long .before .before .before .if1 .left) _ (long .before .short .ensures) (long .if2 .left) _ (c .before .dear .ensures) (c .if3 .left)
+    can-check (start .pre) (long .before .before .before .if1 .left) _ _ (long .before .short .ensures) (long .if2 .left) (c .before .dear .ensures) (c .if3 .left)
 
 returns-4 : tie.Need-returns-4
 unfolding checkedOf
@@ -40,7 +43,7 @@ returns-4 c h =
     let dear = c .before .before .before in
     let long = dear .before in
     sym (ap done (c .if4 .taken))
-    ∙ verdict-given h _ _ (long .before .before .before .if1 .left) _ (long .before .short .ensures) (long .if2 .left) _ (dear .dear .ensures) (c .before .before .if3 .left) (c .before .weigh .ensures)
+    ∙ weighed h (long .before .before .before .if1 .left) _ _ (long .before .short .ensures) (long .if2 .left) (dear .dear .ensures) (c .before .before .if3 .left) (c .before .weigh .ensures)
 
 returns-5 : tie.Need-returns-5
 unfolding checkedOf
@@ -48,7 +51,7 @@ returns-5 c h =
     let dear = c .before .before .before in
     let long = dear .before in
     sym (ap done (c .if4 .left))
-    ∙ verdict-given h _ _ (long .before .before .before .if1 .left) _ (long .before .short .ensures) (long .if2 .left) _ (dear .dear .ensures) (c .before .before .if3 .left) (c .before .weigh .ensures)
+    ∙ weighed h (long .before .before .before .if1 .left) _ _ (long .before .short .ensures) (long .if2 .left) (dear .dear .ensures) (c .before .before .if3 .left) (c .before .weigh .ensures)
 
 pub check-book-spec : {M : Type 1} → statement M
 check-book-spec =
