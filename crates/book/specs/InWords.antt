@@ -170,9 +170,10 @@ unfolding shortOf
 row-12 shape spans count entryRoom priceRoom = or less (and same less)
 
 -- it is not given exactly when both are long enough
-pub long-lists :
-    {shape spans count entryRoom priceRoom : ℕ}
-    → shortOf shape spans count entryRoom priceRoom ≡ false ↔ (count ≤ entryRoom) × (shape ≡ 1 → spans ≤ priceRoom)
+abbrev pub LongEnough : (shape spans count entryRoom priceRoom : ℕ) → Type 0
+LongEnough shape spans count entryRoom priceRoom = (count ≤ entryRoom) × (shape ≡ 1 → spans ≤ priceRoom)
+
+pub long-lists : {shape spans count entryRoom priceRoom : ℕ} → shortOf shape spans count entryRoom priceRoom ≡ false ↔ LongEnough shape spans count entryRoom priceRoom
 long-lists = Iff·trans (not-so (row-12 _ _ _ _ _)) (
   λ long. (not-above (λ h. long (inl h)), λ line. not-above (λ h. long (inr (line, h)))),
   λ enough. ⊎-elim (λ h. omega (arith, enough .0)) (λ w. omega (arith, w .1, enough .1 (w .0))),

@@ -9,6 +9,7 @@ use native.Mathlib.Omega.{arith}
 use Rattle.sums.specs.Each.{same-test}
 use Rattle.book.specs.Bytes.{byte, two, four, entryIn, priceIn, entryPlaces, pricePlaces}
 use Rattle.book.specs.Book.{Book, spans, count}
+use Rattle.book.specs.InWords.{LongEnough}
 use Rattle.book.specs.Reading.{done, reading}
 use Rattle.book.specs.Sound.{sound}
 use Rattle.rules.specs.Plans.{Plan, Best}
@@ -20,7 +21,7 @@ use Rattle.verdict.specs.Demand3.{is-verdict}
 use Rattle.planner.specs.Cases.{plannable-read}
 use Rattle.desk.specs.Packing.{packedVerdict}
 use Rattle.desk.specs.Promise.{Written, EntriesWritten, PricesWritten, Handed, PlanAnswer}
-use Rattle.desk.specs.Bounds.{LongEnough, long-enough}
+use Rattle.desk.specs.Bounds.{long-enough}
 use Rattle.demands.specs.Equal.{prices-equal}
 use Rattle.demands.specs.NotRead.{verdict-same}
 
@@ -63,7 +64,7 @@ module _ {file entries prices entries′ prices′ : List ℕ} {answer : ℕ} (m
     unfolding plannable
     read = plannable-read file (entryPlaces entries) (pricePlaces prices) book long .0
 
-    enough : LongEnough book (entryPlaces entries) (pricePlaces prices)
+    enough : LongEnough (book .shape) (spans book) (count book) (entryPlaces entries) (pricePlaces prices)
     unfolding plannable
     enough = long-enough file (entryPlaces entries) (pricePlaces prices) book long
 
@@ -84,7 +85,7 @@ module _ {file entries prices entries′ prices′ : List ℕ} {answer : ℕ} (m
           read = read;
           line = line;
           entries-enough = there;
-          prices-enough = omega (arith, enough .prices line, handed .line-prices line .length-same);
+          prices-enough = omega (arith, enough .1 line, handed .line-prices line .length-same);
           price-upto = λ s l. omega (arith, price-there s l, handed .priced line .small s l);
         }))
 
@@ -97,7 +98,7 @@ module _ {file entries prices entries′ prices′ : List ℕ} {answer : ℕ} (m
 
     entries-there : count book ≤ entryPlaces entries′
     unfolding entryPlaces
-    entries-there = omega (arith, enough .entries, handed .written .length-same)
+    entries-there = omega (arith, enough .0, handed .written .length-same)
 
     -- "at which the checker below accepts the plan" (01)
     pub desk-own-yes : (checker file entries′ prices′ ≡ done true) × (packedVerdict (checker file entries′ prices′) ≡ 1)

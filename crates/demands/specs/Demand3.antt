@@ -16,8 +16,8 @@ use Rattle.planner.specs.declared.BookPlan.{BookPlan}
 use Rattle.planner.specs.Promise.{PlanOf, BookPlanned}
 
 -- what `planner::plan_book` answers for a line's book with lists long enough
-module _ {file : List ℕ} {entryPlaces pricePlaces : ℕ} {r : BookPlan} (planned : BookPlanned file entryPlaces pricePlaces r)
-    {book : Book} (long : plannableIn file entryPlaces pricePlaces ≡ done book) (line : book .shape ≡ 1)
+module _ {file : List ℕ} {entryRoom priceRoom : ℕ} {r : BookPlan} (planned : BookPlanned file entryRoom priceRoom r)
+    {book : Book} (long : plannableIn file entryRoom priceRoom ≡ done book) (line : book .shape ≡ 1)
   where
     ours : PlanOf book r
     ours = planned .plan book long

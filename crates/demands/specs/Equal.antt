@@ -3,7 +3,7 @@
 -- lists of one book say yes to the same plans. Assumes nothing.
 use mathlib.Core.Bool.{true}
 use mathlib.Core.Logic.{⊎-elim}
-use mathlib.Core.Path.{_≡_, refl, sym, ap, subst, _∙_}
+use mathlib.Core.Path.{_≡_, sym, ap, subst, _∙_}
 use Prim.Native.Nat.{ℕ, _<_}
 use native.Mathlib.Omega.{arith}
 use Rattle.sums.specs.Sums.{Σ-ext, bit}
@@ -13,18 +13,13 @@ use Rattle.book.specs.Columns.{at}
 use Rattle.book.specs.Sound.{Sound}
 use Rattle.rules.specs.Plans.{Plan, kept, numberKept, earnings, Best}
 use Rattle.rules.specs.Prices.{Prices, verdict}
-use Rattle.rules.specs.Channels.{byRule}
-use Rattle.rules.specs.Cuts.{cutLine, cut, planLine}
 use Rattle.rules.specs.Operations.{Planned, Priced}
 use Rattle.lines.specs.Line.{Line}
 use Rattle.lines.specs.Laid.{obeys-laid}
 use Rattle.lines.specs.Found.{rule-once}
 use Rattle.lines.specs.Ceiling.{yes-best, yes-for-best}
-use Rattle.rings.specs.Ring.{Ring}
-use Rattle.rings.specs.CutLine.{cut-line, cut-count}
-use Rattle.rings.specs.Choice.{cut-in}
 use Rattle.rings.specs.Demand2.{earnings-once}
-use Rattle.rings.specs.Never15.{line-plan, ring-plan}
+use Rattle.rings.specs.PlanLine.{line-plan, ring-plan, line-for}
 use Rattle.planner.specs.declared.BookPlan.{BookPlan}
 use Rattle.planner.specs.Promise.{PlanOf}
 use Rattle.planner.specs.Cases.{is-plan, parts-same}
@@ -57,21 +52,10 @@ module _ {book : Book} (sound : Sound book) {plan other : Plan} {earned number c
       number-equal = p .number-is ∙ Σ-ext (count book) _ _ (λ i l. ap bit (same i l)) ∙ sym (q .number-is)
 
       pub entries-equal : (i : ℕ) → i < count book → plan i ≡ other i
-      entries-equal = ⊎-elim on-line on-ring (sound .shaped)
-        where
-          on : (line : Book) → Line line → count line ≡ count book → planLine book ≡ line → (i : ℕ) → i < count book → plan i ≡ other i
-          on line l c e i h =
-              let b = subst (λ k. Best k plan) e (p .best-there) in
-              let d = subst (λ k. Best k other) e (q .best-there) in
-              rule-once l (obeys-laid l (b .fair)) (obeys-laid l (d .fair)) (subst (λ k. byRule k plan ≡ true) e (p .channels)) (subst (λ k. byRule k other ≡ true) e (q .channels)) (λ j m. same j (omega arith)) i (omega arith)
-
-          on-line : book .shape ≡ 1 → (i : ℕ) → i < count book → plan i ≡ other i
-          on-line e = on book (record { line = e; sound = sound }) refl (line-plan book e)
-
-          on-ring : book .shape ≡ 2 → (i : ℕ) → i < count book → plan i ≡ other i
-          on-ring e =
-              let r : Ring book = record { ring = e; sound = sound } in
-              on (cutLine book (cut book)) (cut-line r (cut book) (cut-in r)) (cut-count r (cut book)) (ring-plan book e)
+      entries-equal i h =
+          let line = line-for book sound in
+          let on = line .is-line in
+          rule-once on (obeys-laid on (p .best-there .fair)) (obeys-laid on (q .best-there .fair)) (p .channels) (q .channels) (λ j m. same j (omega (arith, line .counted))) i (omega (arith, line .counted))
 
 -- two accepted price lists of one line say yes to the same plans
 pub prices-equal : {book : Book} → Line book → {plan plan′ : Plan} {prices prices′ : Prices} → Priced book plan prices → Priced book plan′ prices′ → (other : Plan) → verdict book other prices ≡ true → verdict book other prices′ ≡ true

@@ -28,8 +28,8 @@ checked-equal file entries prices {c} {d} p q = same-checked c d (p ∙ sym q)
 
 -- the planner: where one outcome is a refusal, the other is the same one, with all that stands beside it
 pub planner-refusal-equal :
-    {file : List ℕ} {entryPlaces pricePlaces : ℕ} {r other : BookPlan} {refusal : Refusal}
-    → BookPlanned file entryPlaces pricePlaces r → BookPlanned file entryPlaces pricePlaces other → r .answer ≡ Planner.Refused refusal → r ≡ other
+    {file : List ℕ} {entryRoom priceRoom : ℕ} {r other : BookPlan} {refusal : Refusal}
+    → BookPlanned file entryRoom priceRoom r → BookPlanned file entryRoom priceRoom other → r .answer ≡ Planner.Refused refusal → r ≡ other
 planner-refusal-equal p q e = let is = is-refused p e in refused-once (p .refusal _ _ is) (q .refusal _ _ is)
 
 -- the desk: where the book or the lists are refused, the answers are equal, and so is every byte of both lists afterwards

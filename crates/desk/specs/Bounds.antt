@@ -17,7 +17,7 @@ use Rattle.book.specs.Sound.{Sound, sound, spans-small, few-spans}
 use Rattle.book.specs.Refusals.{records, spansIn, nodesIn, shapeIn}
 use Rattle.book.specs.Reading.{Outcome, done, refused, andThen, due, reading, refused-not-done}
 use Rattle.book.specs.Means.{not-so}
-use Rattle.book.specs.InWords.{row-1, row-3, long-lists}
+use Rattle.book.specs.InWords.{row-1, nodes-in-range, LongEnough, long-lists}
 use Rattle.book.specs.Laws.{Given, refused-given}
 use Rattle.rules.specs.Plans.{Plan, kept, earnings, numberKept}
 use Rattle.rules.specs.Cuts.{cutShown}
@@ -26,8 +26,8 @@ use Rattle.rules.specs.Operations.{placesShort, tooShort, tooDear, checking, ch
 use Rattle.rings.specs.Ring.{Ring}
 use Rattle.rings.specs.CutLine.{ring-spans}
 use Rattle.rings.specs.Choice.{cut-in}
+use Rattle.rings.specs.PlanLine.{line-shown, ring-shown}
 use Rattle.planner.specs.Cases.{plannable-read, plannable-refused}
-use Rattle.planner.specs.Held.{line-shown, ring-shown}
 
 -- a number and a place that a refusal carries
 pub record SmallRefusal (number place : ℕ) : Type 0 where
@@ -46,17 +46,15 @@ given-small {file} {place} given = record { number-upto = omega (arith, given .i
   where
     late : 1 ≤ place → place ≤ 320
     late l =
-        let length-ok = not-so (row-1 file 0) .0 (given .before 0 1 (omega arith) (omega arith)) in
-        let nodes-ok = not-so (row-3 file 0) .0 (given .before 0 3 (omega arith) (omega arith)) in
+        let length-ok = not-so (row-1 file 0) .0 (given .before 0 (omega arith) 1 (omega arith)) in
         let short : length file ≤ 5136 = not-above (λ h. length-ok (refl, inr (inr h))) in
-        let few : nodesIn file ≤ 64 = not-above (λ h. nodes-ok (refl, inr (inr h))) in
-        omega (arith, given .looked-at, spans-small (shapeIn file) (nodesIn file))
+        omega (arith, nodes-in-range file (given .before 0 (omega arith) 3 (omega arith)) .upto, given .looked-at, spans-small (shapeIn file) (nodesIn file))
 
 -- the book's refusals and 12
-pub refusal-small : (file : List ℕ) (entryPlaces pricePlaces number place : ℕ) → plannableIn file entryPlaces pricePlaces ≡ refused number place → SmallRefusal number place
-refusal-small file entryPlaces pricePlaces number place is =
+pub refusal-small : (file : List ℕ) (entryRoom priceRoom number place : ℕ) → plannableIn file entryRoom priceRoom ≡ refused number place → SmallRefusal number place
+refusal-small file entryRoom priceRoom number place is =
     ⊎-elim (λ e. given-small (refused-given file number place e)) (λ e. record { number-upto = omega (arith, e .0); place-upto = omega (arith, e .1) })
-    (plannable-refused file entryPlaces pricePlaces number place is)
+    (plannable-refused file entryRoom priceRoom number place is)
 
 -- a plan's numbers
 pub plan-small : {book : Book} {plan : Plan} {earned number shown : ℕ} → Sound book → Planned book plan earned number shown → SmallPlan earned number shown
@@ -75,18 +73,9 @@ plan-small {book} {plan} sound made =
         (sound .shaped)
 
 -- where a book can be planned, the lists are long enough
-pub record LongEnough (book : Book) (entryPlaces pricePlaces : ℕ) : Type 0 where
-  pub entries : count book ≤ entryPlaces
-  pub prices : book .shape ≡ 1 → spans book ≤ pricePlaces
-
-not-short : (book : Book) (entryPlaces pricePlaces : ℕ) → placesShort book entryPlaces pricePlaces ≡ false → LongEnough book entryPlaces pricePlaces
+pub long-enough : (file : List ℕ) (entryRoom priceRoom : ℕ) (book : Book) → plannableIn file entryRoom priceRoom ≡ done book → LongEnough (book .shape) (spans book) (count book) entryRoom priceRoom
 unfolding placesShort
-not-short book entryPlaces pricePlaces e =
-    let long = long-lists .0 e in
-    record { entries = long .0; prices = long .1 }
-
-pub long-enough : (file : List ℕ) (entryPlaces pricePlaces : ℕ) (book : Book) → plannableIn file entryPlaces pricePlaces ≡ done book → LongEnough book entryPlaces pricePlaces
-long-enough file entryPlaces pricePlaces book is = not-short book entryPlaces pricePlaces (plannable-read file entryPlaces pricePlaces book is .1)
+long-enough file entryRoom priceRoom book is = long-lists .0 (plannable-read file entryRoom priceRoom book is .1)
 
 -- ---- the checker's: the book's, 14, 12 and 13
 

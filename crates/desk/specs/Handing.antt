@@ -6,8 +6,9 @@ use Prim.Native.Nat.{ℕ, _/_}
 use native.Mathlib.Omega.{arith}
 use lib.ListN.{length}
 use Rattle.book.specs.Bytes.{entryPlaces, pricePlaces}
-use Rattle.book.specs.Book.{Book, spans}
+use Rattle.book.specs.Book.{Book, spans, count}
 use Rattle.book.specs.Columns.{at}
+use Rattle.book.specs.InWords.{LongEnough}
 use Rattle.book.specs.Reading.{done, refused, refused-not-done}
 use Rattle.book.specs.Sound.{few-spans}
 use Rattle.rules.specs.Operations as O
@@ -20,7 +21,7 @@ use Rattle.planner.specs.Promise.{PlanOf, BookPlanned}
 use Rattle.planner.specs.Cases.{plan-answered, is-refused, is-planned, plan-holds}
 use Rattle.desk.specs.Packing.{packedRefusal, packedPlan}
 use Rattle.desk.specs.Promise.{EntriesWritten, PricesWritten, Handed, PlanAnswer}
-use Rattle.desk.specs.Bounds.{SmallRefusal, SmallPlan, LongEnough, refusal-small, plan-small, long-enough}
+use Rattle.desk.specs.Bounds.{SmallRefusal, SmallPlan, refusal-small, plan-small, long-enough}
 use Rattle.desk.specs.Writing.{Fit}
 
 answer-refused :
@@ -56,7 +57,7 @@ module _ {file : List ℕ} (entries prices : List ℕ) {r : BookPlan} (made : Bo
     abbrev plan : PlanOf book r
     plan = made .plan book (is-planned made says .1)
 
-    long : LongEnough book (length entries / 2) (length prices / 4)
+    long : LongEnough (book .shape) (spans book) (count book) (length entries / 2) (length prices / 4)
     long = long-enough file (length entries / 2) (length prices / 4) book (is-planned made says .1)
 
     planned : O.Planned book (at (r .entries)) earned number cut
@@ -68,14 +69,14 @@ module _ {file : List ℕ} (entries prices : List ℕ) {r : BookPlan} (made : Bo
     pub entries-fit : Fit 2 (r .count) (r .entries) entries
     entries-fit =
         let fair = fair-printable {entries = r .entries} (plan .sound) (plan-holds plan) (plan .planned .fair) in
-        record { there = omega (arith, plan .entries-end .long, fair .entries-in .few); room = omega (arith, plan .count-is, long .entries); whole = λ i h. omega (arith, fair .entries-in .upto i h) }
+        record { there = omega (arith, plan .entries-end .long, fair .entries-in .few); room = omega (arith, plan .count-is, long .0); whole = λ i h. omega (arith, fair .entries-in .upto i h) }
 
     pub prices-fit : r .shape ≡ 1 → Fit 4 (r .spans) (r .prices) prices
     prices-fit e =
         let on : book .shape ≡ 1 = omega (arith, plan .shape-is) in
         record {
           there = omega (arith, plan .line-prices-end on .long, plan .spans-is, few-spans (plan .sound));
-          room = omega (arith, plan .spans-is, long .prices on);
+          room = omega (arith, plan .spans-is, long .1 on);
           whole = λ j h. omega (arith, plan .priced on .small j (omega (arith, plan .spans-is)));
         }
 

@@ -1,7 +1,7 @@
 pub mod Promise
+pub mod Totals
 pub mod Steps
 pub mod Entering
-pub mod Totals
 pub mod AsRow
 pub mod Certified
 pub mod Written

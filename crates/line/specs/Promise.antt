@@ -2,13 +2,13 @@
 use mathlib.Core.Bool.{true}
 use mathlib.Core.List.{List}
 use mathlib.Core.Path.{_≡_}
-use Prim.Native.Nat.{ℕ, _-_, _≤_, _<_}
+use Prim.Native.Nat.{ℕ, _-_}
 use Rattle.sums.specs.Vacant.{Vacant}
 use Rattle.book.specs.Book.{Book, spans, count}
 use Rattle.book.specs.Columns.{at}
 use Rattle.rules.specs.Plans.{numberKept, earnings, Best}
 use Rattle.rules.specs.Channels.{byRule}
-use Rattle.rules.specs.Prices.{verdict}
+use Rattle.rules.specs.Operations.{Priced}
 use Rattle.lines.specs.HeldLine.{HeldLine}
 use Rattle.line.specs.declared.Solved.{Solved}
 use Rattle.line.specs.declared.Solved.the-variants.{Planned}
@@ -29,7 +29,6 @@ pub record LinePlanned (book : Book) (answer : Solved) (entries prices : List �
   pub says : answer ≡ Planned (earnings book (at entries)) (numberKept book (at entries))
   pub best-plan : Best book (at entries)
   pub by-rule : byRule book (at entries) ≡ true
-  pub prices-upto : (s : ℕ) → s < spans book → at prices s ≤ 1000000
-  pub accepted : verdict book (at entries) (at prices) ≡ true
+  pub priced : Priced book (at entries) (at prices)
   pub entries-end : Vacant 0 (count book) 256 entries
   pub prices-end : Vacant 0 (spans book) 64 prices

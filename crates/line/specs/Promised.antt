@@ -148,8 +148,7 @@ module _ {nodes count : ℕ} {limits a b profits : List ℕ} (w : LineColumns no
                   says = ap₂ Planned (earns ∙ sum-is (w .held .holds) channels-small e) (counts ∙ number-is (w .held .holds) channels-small e);
                   best-plan = yes-best (w .held .line) (at entries) (at prices) accepted;
                   by-rule = rule;
-                  prices-upto = λ j l. omega (arith, p .is j (omega (arith, cells-are)));
-                  accepted = accepted;
+                  priced = record { small = λ j l. omega (arith, p .is j (omega (arith, cells-are))); accepted = accepted };
                   entries-end = subst (λ (n : ℕ). Vacant 0 n 256 entries) (w .held .holds .counted) no-entry;
                   prices-end = subst (λ (n : ℕ). Vacant 0 n 64 prices) cells-are no-price;
                 }

@@ -2,19 +2,20 @@
 use mathlib.Core.Bool.{Bool}
 use mathlib.Core.List.{List}
 use Prim.Native.Nat.{ℕ}
-use Rattle.sums.specs.Sums.{Σ, when, bit}
+use Rattle.sums.specs.Sums.{Σ}
 use Rattle.sums.specs.Filled.{Filled}
 use Rattle.book.specs.Columns.{at}
 use Rattle.rules.specs.Ways.{wayFrom}
 use Rattle.lines.specs.Entries.{entered}
 use Rattle.planrow.specs.State.{flag}
+use Rattle.line.specs.Totals.{overKept}
 
 -- the profits of the kept ones, and how many there are
 abbrev pub sumOf : ℕ → List Bool → List ℕ → ℕ
-sumOf n kept profits = Σ n (λ i. when (flag kept i) (at profits i))
+sumOf n kept profits = Σ n (overKept kept (at profits))
 
 abbrev pub numberOf : ℕ → List Bool → ℕ
-numberOf n kept = Σ n (λ i. bit (flag kept i))
+numberOf n kept = Σ n (overKept kept (λ i. 1))
 
 -- the way of request i, from a to b
 unfoldable pub wayIn : List ℕ → List ℕ → ℕ → ℕ

@@ -1,4 +1,4 @@
--- A sum over what is kept, after one turn more of its loop: a kept one adds what it counts for, another nothing. Assumes nothing.
+-- What a sum over what is kept counts at each place, and such a sum after one turn more of its loop: a kept one adds what it counts for, another nothing. Assumes nothing.
 use mathlib.Core.Path.{_≡_, sym}
 use mathlib.Core.Bool.{Bool, true, false}
 use mathlib.Core.List.{List}

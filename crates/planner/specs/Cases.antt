@@ -72,12 +72,12 @@ refused-once {r} {other} x y =
     (x .no-prices ∙ sym (y .no-prices))
 
 pub is-refused :
-    {file : List ℕ} {entryPlaces pricePlaces : ℕ} {r : BookPlan} {refusal : Refusal} → BookPlanned file entryPlaces pricePlaces r → r .answer ≡ Refused refusal
-    → plannableIn file entryPlaces pricePlaces ≡ refused (refusal .number) (refusal .place)
+    {file : List ℕ} {entryRoom priceRoom : ℕ} {r : BookPlan} {refusal : Refusal} → BookPlanned file entryRoom priceRoom r → r .answer ≡ Refused refusal
+    → plannableIn file entryRoom priceRoom ≡ refused (refusal .number) (refusal .place)
 unfolding plannedOf
-is-refused {file} {entryPlaces} {pricePlaces} {refusal} planned says = go (plannableIn file entryPlaces pricePlaces) refl
+is-refused {file} {entryRoom} {priceRoom} {refusal} planned says = go (plannableIn file entryRoom priceRoom) refl
   where
-    go : (o : Outcome Book) → plannableIn file entryPlaces pricePlaces ≡ o → plannableIn file entryPlaces pricePlaces ≡ refused (refusal .number) (refusal .place)
+    go : (o : Outcome Book) → plannableIn file entryRoom priceRoom ≡ o → plannableIn file entryRoom priceRoom ≡ refused (refusal .number) (refusal .place)
     go (done book) is = absurd (refused-not-done (sym (ap plannedOf says) ∙ planned .plan book is .says))
     go (refused n p) is =
         let told : _≡_ {A = Outcome (ℕ × ℕ × ℕ)} (refused (refusal .number) (refusal .place)) (refused n p) = sym (ap plannedOf says) ∙ planned .refusal n p is .says in
@@ -86,46 +86,46 @@ is-refused {file} {entryPlaces} {pricePlaces} {refusal} planned says = go (plann
         rw (number, place) at is
 
 pub is-planned :
-    {file : List ℕ} {entryPlaces pricePlaces earned number cut : ℕ} {r : BookPlan} → BookPlanned file entryPlaces pricePlaces r → r .answer ≡ Planned earned number cut
-    → (book : Book) × (plannableIn file entryPlaces pricePlaces ≡ done book)
+    {file : List ℕ} {entryRoom priceRoom earned number cut : ℕ} {r : BookPlan} → BookPlanned file entryRoom priceRoom r → r .answer ≡ Planned earned number cut
+    → (book : Book) × (plannableIn file entryRoom priceRoom ≡ done book)
 unfolding plannedOf
-is-planned {file} {entryPlaces} {pricePlaces} planned says = go (plannableIn file entryPlaces pricePlaces) refl
+is-planned {file} {entryRoom} {priceRoom} planned says = go (plannableIn file entryRoom priceRoom) refl
   where
-    go : (o : Outcome Book) → plannableIn file entryPlaces pricePlaces ≡ o → (book : Book) × (plannableIn file entryPlaces pricePlaces ≡ done book)
+    go : (o : Outcome Book) → plannableIn file entryRoom priceRoom ≡ o → (book : Book) × (plannableIn file entryRoom priceRoom ≡ done book)
     go (done book) is = (book, is)
     go (refused n p) is = absurd (refused-not-done (sym (planned .refusal n p is .says) ∙ ap plannedOf says))
 
 -- ---- what comes before a plan: a book that can be planned is the one that was read, and the lists are not short for it
 
 pub plannable-read :
-    (file : List ℕ) (entryPlaces pricePlaces : ℕ) (book : Book) → plannableIn file entryPlaces pricePlaces ≡ done book
-    → (reading file ≡ done book) × (placesShort book entryPlaces pricePlaces ≡ false)
+    (file : List ℕ) (entryRoom priceRoom : ℕ) (book : Book) → plannableIn file entryRoom priceRoom ≡ done book
+    → (reading file ≡ done book) × (placesShort book entryRoom priceRoom ≡ false)
 unfolding plannableIn andThen
-plannable-read file entryPlaces pricePlaces book = by (reading file)
+plannable-read file entryRoom priceRoom book = by (reading file)
   where
     by :
-        (o : Outcome Book) → andThen o (λ made. cond (placesShort made entryPlaces pricePlaces) (refused 12 0) (done made)) ≡ done book
-        → (o ≡ done book) × (placesShort book entryPlaces pricePlaces ≡ false)
+        (o : Outcome Book) → andThen o (λ made. cond (placesShort made entryRoom priceRoom) (refused 12 0) (done made)) ≡ done book
+        → (o ≡ done book) × (placesShort book entryRoom priceRoom ≡ false)
     by (refused n p) same = absurd (refused-not-done same)
     by (done made) same =
-        ⊎-elim (λ t. absurd (refused-not-done (rw t at same))) (λ t. long t (rw t at same)) (decided (placesShort made entryPlaces pricePlaces))
+        ⊎-elim (λ t. absurd (refused-not-done (rw t at same))) (λ t. long t (rw t at same)) (decided (placesShort made entryRoom priceRoom))
       where
-        long : placesShort made entryPlaces pricePlaces ≡ false → done made ≡ done book → (done made ≡ done book) × (placesShort book entryPlaces pricePlaces ≡ false)
+        long : placesShort made entryRoom priceRoom ≡ false → done made ≡ done book → (done made ≡ done book) × (placesShort book entryRoom priceRoom ≡ false)
         long t e = let same-book : made ≡ book = cc in (e, rw same-book at t)
 
 -- else it is the reading's refusal, or 12
 pub plannable-refused :
-    (file : List ℕ) (entryPlaces pricePlaces number place : ℕ) → plannableIn file entryPlaces pricePlaces ≡ refused number place
+    (file : List ℕ) (entryRoom priceRoom number place : ℕ) → plannableIn file entryRoom priceRoom ≡ refused number place
     → (reading file ≡ refused number place) ⊎ ((number ≡ 12) × (place ≡ 0))
 unfolding plannableIn andThen
-plannable-refused file entryPlaces pricePlaces number place = by (reading file)
+plannable-refused file entryRoom priceRoom number place = by (reading file)
   where
     by :
-        (o : Outcome Book) → andThen o (λ made. cond (placesShort made entryPlaces pricePlaces) (refused 12 0) (done made)) ≡ refused number place
+        (o : Outcome Book) → andThen o (λ made. cond (placesShort made entryRoom priceRoom) (refused 12 0) (done made)) ≡ refused number place
         → (o ≡ refused number place) ⊎ ((number ≡ 12) × (place ≡ 0))
     by (refused n p) same = inl same
     by (done made) same =
-        ⊎-elim (λ t. inr (twelve (rw t at same))) (λ t. absurd (refused-not-done (sym (rw t at same)))) (decided (placesShort made entryPlaces pricePlaces))
+        ⊎-elim (λ t. inr (twelve (rw t at same))) (λ t. absurd (refused-not-done (sym (rw t at same)))) (decided (placesShort made entryRoom priceRoom))
       where
         twelve : _≡_ {A = Outcome Book} (refused 12 0) (refused number place) → (number ≡ 12) × (place ≡ 0)
         twelve e = (cc, cc)

@@ -13,10 +13,9 @@ use Rattle.book.specs.Book.{Book, spans, spansOf, count}
 use Rattle.book.specs.Refusals.{shortOf}
 use Rattle.book.specs.Columns.{at}
 use Rattle.book.specs.Reading.{done, refused, andThen, refused-not-done}
-use Rattle.rules.specs.Cuts.{cut, cutShown}
 use Rattle.rules.specs.Operations.{placesShort, plannableIn, Planned, Priced}
 use Rattle.lines.specs.HeldLine.{line-held}
-use Rattle.rings.specs.Never15.{line-plan, ring-plan}
+use Rattle.rings.specs.PlanLine.{line-plan, ring-plan, line-shown, ring-shown}
 use Rattle.records.specs.declared.Network.{Network}
 use Rattle.records.specs.declared.Refusal.{Refusal}
 use Rattle.reader.specs.declared.Taken.{Taken}
@@ -35,17 +34,9 @@ use Rattle.planner.specs.declared.Found.{Found}
 use Rattle.planner.specs.Promise.{answered, plannedOf, Refusing, PlanOf, BookPlanned}
 
 -- the accepted book is refused by 12, or planned
-pub record HeldPlanned (book : Book) (entryPlaces pricePlaces : ℕ) (r : BookPlan) : Type 0 where
-  pub short : placesShort book entryPlaces pricePlaces ≡ true → Refusing 12 0 r
-  pub long : placesShort book entryPlaces pricePlaces ≡ false → PlanOf book r
-
-pub line-shown : (book : Book) → book .shape ≡ 1 → cutShown book ≡ 65535
-unfolding cutShown
-line-shown book e = rw e
-
-pub ring-shown : (book : Book) → book .shape ≡ 2 → cutShown book ≡ cut book
-unfolding cutShown
-ring-shown book e = rw e
+pub record HeldPlanned (book : Book) (entryRoom priceRoom : ℕ) (r : BookPlan) : Type 0 where
+  pub short : placesShort book entryRoom priceRoom ≡ true → Refusing 12 0 r
+  pub long : placesShort book entryRoom priceRoom ≡ false → PlanOf book r
 
 -- what is found, beside the columns of its book
 abbrev pub beside : Network → ℕ → (a b : List ℕ) → Found → BookPlan
@@ -150,7 +141,7 @@ module _ {net : Network} {n : ℕ} {limits a b profits : List ℕ} (held : HeldB
         number-is = refl;
         cut-is = sym (line-shown (held .book) line);
       })
-      (λ l. record { small = made .prices-upto; accepted = made .accepted })
+      (λ l. made .priced)
       (made .entries-end)
       (λ l. made .prices-end)
       (λ l. absurd (omega (arith, line)))
@@ -176,23 +167,23 @@ module _ {net : Network} {n : ℕ} {limits a b profits : List ℕ} (held : HeldB
 
 -- the test of 12 on the numbers that hold the book
 pub short-is :
-    {net : Network} {n spansN : ℕ} {limits a b profits : List ℕ} {t : Bool} (entryPlaces pricePlaces : ℕ) (held : HeldBook net n limits a b profits) → spansN ≡ spansOf (net .shape) (net .nodes)
-    → t ≡ shortOf (net .shape) spansN n entryPlaces pricePlaces → placesShort (held .book) entryPlaces pricePlaces ≡ t
+    {net : Network} {n spansN : ℕ} {limits a b profits : List ℕ} {t : Bool} (entryRoom priceRoom : ℕ) (held : HeldBook net n limits a b profits) → spansN ≡ spansOf (net .shape) (net .nodes)
+    → t ≡ shortOf (net .shape) spansN n entryRoom priceRoom → placesShort (held .book) entryRoom priceRoom ≡ t
 unfolding placesShort spans count
-short-is entryPlaces pricePlaces held s e = rw (held .shape-is, held .nodes-is, ← held .holds .counted, e, s)
+short-is entryRoom priceRoom held s e = rw (held .shape-is, held .nodes-is, ← held .holds .counted, e, s)
 
 -- 12, and a plan where it is not 12
-pub held-short : {book : Book} {entryPlaces pricePlaces : ℕ} {r : BookPlan} → placesShort book entryPlaces pricePlaces ≡ true → Refusing 12 0 r → HeldPlanned book entryPlaces pricePlaces r
+pub held-short : {book : Book} {entryRoom priceRoom : ℕ} {r : BookPlan} → placesShort book entryRoom priceRoom ≡ true → Refusing 12 0 r → HeldPlanned book entryRoom priceRoom r
 held-short t says = record { short = λ e. says; long = λ e. absurd (of-yes (sym e ∙ t)) }
 
-pub held-long : {book : Book} {entryPlaces pricePlaces : ℕ} {r : BookPlan} → placesShort book entryPlaces pricePlaces ≡ false → PlanOf book r → HeldPlanned book entryPlaces pricePlaces r
+pub held-long : {book : Book} {entryRoom priceRoom : ℕ} {r : BookPlan} → placesShort book entryRoom priceRoom ≡ false → PlanOf book r → HeldPlanned book entryRoom priceRoom r
 held-long t plan = record { short = λ e. absurd (of-yes (sym t ∙ e)); long = λ e. plan }
 
 -- ---- any file
 
 refused-by :
-    {file : List ℕ} {entryPlaces pricePlaces number place : ℕ} {r : BookPlan} → plannableIn file entryPlaces pricePlaces ≡ refused number place
-    → Refusing number place r → BookPlanned file entryPlaces pricePlaces r
+    {file : List ℕ} {entryRoom priceRoom number place : ℕ} {r : BookPlan} → plannableIn file entryRoom priceRoom ≡ refused number place
+    → Refusing number place r → BookPlanned file entryRoom priceRoom r
 refused-by {number} {place} is says =
     record {
       refusal = λ n p e. let same-number : number ≡ n = cc in let same-place : place ≡ p = cc in rw (← same-number, ← same-place) says;
@@ -200,7 +191,7 @@ refused-by {number} {place} is says =
     }
 
 planned-by :
-    {file : List ℕ} {entryPlaces pricePlaces : ℕ} {book : Book} {r : BookPlan} → plannableIn file entryPlaces pricePlaces ≡ done book → PlanOf book r → BookPlanned file entryPlaces pricePlaces r
+    {file : List ℕ} {entryRoom priceRoom : ℕ} {book : Book} {r : BookPlan} → plannableIn file entryRoom priceRoom ≡ done book → PlanOf book r → BookPlanned file entryRoom priceRoom r
 planned-by {book} {r} is plan =
     record {
       refusal = λ n p e. absurd (refused-not-done (sym e ∙ is));
@@ -209,16 +200,16 @@ planned-by {book} {r} is plan =
 
 -- a file that is not read is refused as the reader says
 pub unread :
-    {file : List ℕ} {taken : Taken} {refusal : Refusal} {r : BookPlan} (entryPlaces pricePlaces : ℕ) → Reads file taken → taken .answer ≡ Refused refusal → Refusing (refusal .number) (refusal .place) r
-    → BookPlanned file entryPlaces pricePlaces r
+    {file : List ℕ} {taken : Taken} {refusal : Refusal} {r : BookPlan} (entryRoom priceRoom : ℕ) → Reads file taken → taken .answer ≡ Refused refusal → Refusing (refusal .number) (refusal .place) r
+    → BookPlanned file entryRoom priceRoom r
 unfolding plannableIn andThen
-unread entryPlaces pricePlaces reads e says = refused-by (rw (refused-read reads e)) says
+unread entryRoom priceRoom reads e says = refused-by (rw (refused-read reads e)) says
 
 -- a file that is read is planned as its book is
 pub read :
-    {file : List ℕ} {taken : Taken} {net : Network} {entryPlaces pricePlaces : ℕ} {r : BookPlan} → Reads file taken → taken .answer ≡ Accepted net
-    → HeldPlanned (bookFrom net (taken .limits) (taken .count) (taken .requests)) entryPlaces pricePlaces r → BookPlanned file entryPlaces pricePlaces r
+    {file : List ℕ} {taken : Taken} {net : Network} {entryRoom priceRoom : ℕ} {r : BookPlan} → Reads file taken → taken .answer ≡ Accepted net
+    → HeldPlanned (bookFrom net (taken .limits) (taken .count) (taken .requests)) entryRoom priceRoom r → BookPlanned file entryRoom priceRoom r
 unfolding plannableIn andThen
-read {entryPlaces} {pricePlaces} reads e how =
+read {entryRoom} {priceRoom} reads e how =
     let is = accepted reads e .1 in
-    ⊎-elim (λ t. refused-by (rw (is, t)) (how .short t)) (λ t. planned-by (rw (is, t)) (how .long t)) (decided (placesShort _ entryPlaces pricePlaces))
+    ⊎-elim (λ t. refused-by (rw (is, t)) (how .short t)) (λ t. planned-by (rw (is, t)) (how .long t)) (decided (placesShort _ entryRoom priceRoom))

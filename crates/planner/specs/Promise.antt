@@ -59,6 +59,6 @@ pub record PlanOf (book : Book) (r : BookPlan) : Type 0 where
   pub ring-prices : book .shape ≡ 2 → r .prices ≡ replicate 64 0
 
 -- the book's refusals and then 12, or a plan
-pub record BookPlanned (file : List ℕ) (entryPlaces pricePlaces : ℕ) (r : BookPlan) : Type 0 where
-  pub refusal : (n p : ℕ) → plannableIn file entryPlaces pricePlaces ≡ refused n p → Refusing n p r
-  pub plan : (book : Book) → plannableIn file entryPlaces pricePlaces ≡ done book → PlanOf book r
+pub record BookPlanned (file : List ℕ) (entryRoom priceRoom : ℕ) (r : BookPlan) : Type 0 where
+  pub refusal : (n p : ℕ) → plannableIn file entryRoom priceRoom ≡ refused n p → Refusing n p r
+  pub plan : (book : Book) → plannableIn file entryRoom priceRoom ≡ done book → PlanOf book r

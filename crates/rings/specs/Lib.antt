@@ -6,4 +6,5 @@ pub mod Fair
 pub mod Choice
 pub mod TurnedColumns
 pub mod Demand2
+pub mod PlanLine
 pub mod Never15

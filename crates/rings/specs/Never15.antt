@@ -1,50 +1,19 @@
 -- Refusal 15 is never given: a kept set that a best plan has is within its limits, and there the rule always finds a channel. Assumes nothing.
-use mathlib.Core.Path.{_≡_, refl, sym, ap, subst, _∙_}
-use mathlib.Core.Bool.{Bool, _&&_, cond}
-use mathlib.Core.Logic.{⊎-elim}
+use mathlib.Core.Path.{_≡_, sym, ap, _∙_}
+use mathlib.Core.Bool.{Bool, _&&_}
 use Prim.Native.Nat.{ℕ, _≤_, _<_}
 use native.Mathlib.Omega.{arith}
-use lib.Dec.{eqb}
 use Rattle.sums.specs.Sums.{bit, Σ-ext}
 use Rattle.book.specs.Book.{Book, spans, limit, count}
 use Rattle.book.specs.Sound.{Sound}
 use Rattle.rules.specs.Ways.{crosses}
 use Rattle.rules.specs.Plans.{Plan, kept, way, over, load}
-use Rattle.rules.specs.Cuts.{cutLine, cut, planLine}
+use Rattle.rules.specs.Cuts.{planLine}
 use Rattle.rules.specs.Operations.{NoneLeft}
-use Rattle.lines.specs.Line.{Line}
 use Rattle.lines.specs.Obeys.{obeys-fair}
 use Rattle.lines.specs.Laid.{Laid, obeys-laid}
 use Rattle.lines.specs.Found.{channel-found}
-use Rattle.rings.specs.Ring.{Ring}
-use Rattle.rings.specs.CutLine.{cut-count, cut-line}
-use Rattle.rings.specs.Choice.{cut-in}
-
-pub line-plan : (book : Book) → book .shape ≡ 1 → planLine book ≡ book
-unfolding planLine
-line-plan book e = ap (λ (s : ℕ). cond (eqb s 2) (cutLine book (cut book)) book) e
-
-pub ring-plan : (book : Book) → book .shape ≡ 2 → planLine book ≡ cutLine book (cut book)
-unfolding planLine
-ring-plan book e = ap (λ (s : ℕ). cond (eqb s 2) (cutLine book (cut book)) book) e
-
--- the line on which a plan is made is a line, with the same requests and channels
-record LineFor (book line : Book) : Type 0 where
-  is-line : Line line
-  counted : count line ≡ count book
-  channelled : line .channels ≡ book .channels
-
-line-for : (book : Book) → Sound book → LineFor book (planLine book)
-unfolding cutLine
-line-for book sound = ⊎-elim on-line on-ring (sound .shaped)
-  where
-    on-line : book .shape ≡ 1 → LineFor book (planLine book)
-    on-line e = subst (LineFor book) (sym (line-plan book e)) (record { is-line = record { line = e; sound = sound }; counted = refl; channelled = refl })
-
-    on-ring : book .shape ≡ 2 → LineFor book (planLine book)
-    on-ring e =
-        let on : Ring book = record { ring = e; sound = sound } in
-        subst (LineFor book) (sym (ring-plan book e)) (record { is-line = cut-line on (cut book) (cut-in on); counted = cut-count on (cut book); channelled = refl })
+use Rattle.rings.specs.PlanLine.{LineFor, line-for}
 
 -- plans with the same set on the same ways load every span alike
 same-load : (book : Book) (plan other : Plan) → ((i : ℕ) → i < count book → (kept plan i ≡ kept other i) × (way plan i ≡ way other i)) → (s : ℕ) → load book plan s ≡ load book other s
