@@ -74,7 +74,8 @@ module _ {cells count k : ℕ} {lo hi : List ℕ} {kept : List Bool} {channel en
 
 module _ {cells count k : ℕ} {lo hi : List ℕ} {kept : List Bool} {channel : List ℕ} where
   pub stage-start : CanHandOut cells count k lo hi kept → length channel ≡ 256 → ((j : ℕ) → j < count → at channel j ≡ 0) → Stage cells count k lo hi kept channel (replicate 128 0) 0 0
-  stage-start can long none = record { can = can; long = long; given = λ j h. absurd (omega (arith, h .early)); only = λ j l h. absurd (omega (arith, none j l)); latest = latest-start }
+  stage-start can long none =
+      record { can = can; long = long; given = λ j h. absurd (omega (arith, h .early)); only = λ j l h. absurd (omega (arith, none j l)); latest = latest-start }
 
   -- every kept one begins before the last node
   pub stage-end : {ends : List ℕ} → Stage cells count k lo hi kept channel ends cells 0 → HandedOut cells count k lo hi kept All channel

@@ -126,11 +126,14 @@ module _ {count : ℕ} {lo hi : List ℕ} {crossing : List Bool} {channels : Lis
             few : count ≤ 256
             few = can .laid .in-line .few
 
+            older : {j : ℕ} → (j ≡ i → ⊥) → Had count lo crossing v (i + 1) j → Had count lo crossing v i j
+            older = had-older few l
+
             apart :
                 (j k s : ℕ) → Had count lo crossing v (i + 1) j → Had count lo crossing v (i + 1) k → (j ≡ k → ⊥)
                 → onSpan lo hi s j ≡ true → onSpan lo hi s k ≡ true → at channels j ≡ at channels k → ⊥
             apart j k s hj hk ne oj ok q =
                 ⊎-elim
-                (λ (e : j ≡ i). no-span k s (had-older few l (λ f. ne (e ∙ sym f)) hk) ok (rw e at oj) (sym (rw e at q)))
-                (λ nj. ⊎-elim (λ (e : k ≡ i). no-span j s (had-older few l nj hj) oj (rw e at ok) (rw e at q)) (λ nk. was .apart j k s (had-older few l nj hj) (had-older few l nk hk) ne oj ok q) (same-or-not k i))
+                (λ (e : j ≡ i). no-span k s (older (λ f. ne (e ∙ sym f)) hk) ok (rw e at oj) (sym (rw e at q)))
+                (λ nj. ⊎-elim (λ (e : k ≡ i). no-span j s (older nj hj) oj (rw e at ok) (rw e at q)) (λ nk. was .apart j k s (older nj hj) (older nk hk) ne oj ok q) (same-or-not k i))
                 (same-or-not j i)

@@ -39,7 +39,8 @@ module _ {nodes count : ℕ} {limits a b profits : List ℕ} (w : RingColumns no
   can-turn j l = (ends (a-node (w .ring .sound) (w .holds)), ends (b-node (w .ring .sound) (w .holds)))
     where
       ends : {column : List ℕ} → ((i : ℕ) → i < count → at column i < w .book .nodes) → Nodes nodes j count column
-      ends below = record { cut-in = l; n-upto = few-nodes; are-nodes = record { few = few (w .ring .sound) (w .holds); below = λ i h. omega (arith, below i h, w .nodes-is) } }
+      ends below =
+          record { cut-in = l; n-upto = few-nodes; are-nodes = record { few = few (w .ring .sound) (w .holds); below = λ i h. omega (arith, below i h, w .nodes-is) } }
 
   module _ (j : ℕ) (cut : j < nodes) {limits′ a′ b′ : List ℕ} (turned : Turned nodes j count limits a b limits′ a′ b′) where
     turned-line : Holds (cutLine (w .book) j) count limits′ a′ b′ profits
