@@ -6,11 +6,11 @@ use Prim.Native.Nat.{ℕ, _+_, _≤_, _<_}
 use native.Mathlib.Omega.{arith}
 use borrow.Author.Tests.{lt-ltb, le-ltb}
 use lib.ListN.{length, set, length-set}
+use Rattle.sums.specs.At.{flag}
 use Rattle.sums.specs.Filled.{filled-none, filled-more}
 use Rattle.book.specs.Columns.{at}
 use Rattle.rules.specs.Ways.{wayFrom}
 use Rattle.lines.specs.Entries.{entered}
-use Rattle.planrow.specs.State.{flag}
 use Rattle.line.specs.Steps.{wayIn, entries-of, Entered}
 
 -- n entries are written, in an array of 256 places

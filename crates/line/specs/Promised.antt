@@ -7,7 +7,7 @@ use Prim.Native.Nat.{ℕ, suc, _-_, _≤_, _<_}
 use native.Mathlib.Omega.{arith}
 use lib.ListN.{length, drop, replicate}
 use lib.IntN.{ℤ}
-use Rattle.sums.specs.At.{NumbersUpto}
+use Rattle.sums.specs.At.{flag, NumbersUpto}
 use Rattle.sums.specs.Sums.{when, Σ-ext}
 use Rattle.sums.specs.Filled.{Filled}
 use Rattle.sums.specs.Vacant.{Vacant, vacant-new, vacant-part}
@@ -27,7 +27,7 @@ use Rattle.lines.specs.HeldLine.{few-spans, a-in, b-in, ends-differ, profits-in
 use Rattle.lines.specs.Laid.{Laid, load-row, ruled-rule}
 use Rattle.lines.specs.Found.{rule-obeys}
 use Rattle.lines.specs.Ceiling.{yes-best}
-use Rattle.planrow.specs.State.{flag, rowIn}
+use Rattle.planrow.specs.State.{rowIn}
 use Rattle.channels.specs.HandOut.{rowOn, CanHandOut, HandedOut}
 use Rattle.channels.specs.declared.Given.{Given}
 use Rattle.cells.specs.Steps.{CanSolve, Solves, Falling, prices-of}

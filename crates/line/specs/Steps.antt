@@ -2,12 +2,12 @@
 use mathlib.Core.Bool.{Bool}
 use mathlib.Core.List.{List}
 use Prim.Native.Nat.{ℕ}
+use Rattle.sums.specs.At.{flag}
 use Rattle.sums.specs.Sums.{Σ}
 use Rattle.sums.specs.Filled.{Filled}
 use Rattle.book.specs.Columns.{at}
 use Rattle.rules.specs.Ways.{wayFrom}
 use Rattle.lines.specs.Entries.{entered}
-use Rattle.planrow.specs.State.{flag}
 use Rattle.line.specs.Totals.{overKept}
 
 -- the profits of the kept ones, and how many there are

@@ -3,9 +3,9 @@ use mathlib.Core.Path.{_≡_, sym}
 use mathlib.Core.Bool.{Bool, true, false}
 use mathlib.Core.List.{List}
 use Prim.Native.Nat.{ℕ, _+_, _≤_}
+use Rattle.sums.specs.At.{flag}
 use Rattle.sums.specs.Sums.{when, when-yes, when-no}
 use Rattle.sums.specs.Turns.{Running, running-more, running-still}
-use Rattle.planrow.specs.State.{flag}
 
 abbrev pub overKept : List Bool → (ℕ → ℕ) → ℕ → ℕ
 overKept kept f i = when (flag kept i) (f i)

@@ -6,7 +6,7 @@ use mathlib.Core.List.{List}
 use Prim.Native.Nat.{ℕ, _/_, _%_, _<_}
 use native.Mathlib.Omega.{arith}
 use lib.Dec.{eqb}
-use Rattle.sums.specs.At.{NumbersUpto}
+use Rattle.sums.specs.At.{flag, NumbersUpto}
 use Rattle.sums.specs.Sums.{when, bit, Σ-ext}
 use Rattle.book.specs.Book.{Book}
 use Rattle.book.specs.Columns.{at, Holds}
@@ -15,7 +15,6 @@ use Rattle.rules.specs.Plans.{kept, way, channel, earnings, numberKept}
 use Rattle.lines.specs.Ways.{way-from}
 use Rattle.lines.specs.Laid.{Laid}
 use Rattle.lines.specs.Entries.{kept-entered, way-entered, channel-entered}
-use Rattle.planrow.specs.State.{flag}
 use Rattle.line.specs.Steps.{wayIn, Entered, sumOf, numberOf}
 
 module _
