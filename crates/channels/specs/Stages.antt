@@ -8,6 +8,7 @@ use Prim.Native.Nat.{ℕ, _+_, _≤_, _<_}
 use native.Mathlib.Omega.{arith}
 use lib.ListN.{replicate, length}
 use Rattle.sums.specs.Each.{of-yes, less-or-not}
+use Rattle.sums.specs.Filled.{Filled}
 use Rattle.sums.specs.Lowest.{lowestFree}
 use Rattle.row.specs.Row.{heldBefore}
 use Rattle.row.specs.Channels.{Ruled, rule-ext, found, ruled-exists}
@@ -73,9 +74,9 @@ module _ {cells count k : ℕ} {lo hi : List ℕ} {kept : List Bool} {channel en
   stage-next past upto = stage-same (had-next (s .can .count-upto) past upto)
 
 module _ {cells count k : ℕ} {lo hi : List ℕ} {kept : List Bool} {channel : List ℕ} where
-  pub stage-start : CanHandOut cells count k lo hi kept → length channel ≡ 256 → ((j : ℕ) → j < count → at channel j ≡ 0) → Stage cells count k lo hi kept channel (replicate 128 0) 0 0
+  pub stage-start : CanHandOut cells count k lo hi kept → length channel ≡ 256 → Filled (λ j. 0) count channel → Stage cells count k lo hi kept channel (replicate 128 0) 0 0
   stage-start can long none =
-      record { can = can; long = long; given = λ j h. absurd (omega (arith, h .early)); only = λ j l h. absurd (omega (arith, none j l)); latest = latest-start }
+      record { can = can; long = long; given = λ j h. absurd (omega (arith, h .early)); only = λ j l h. absurd (omega (arith, none .is j l)); latest = latest-start }
 
   -- every kept one begins before the last node
   pub stage-end : {ends : List ℕ} → Stage cells count k lo hi kept channel ends cells 0 → HandedOut cells count k lo hi kept All channel

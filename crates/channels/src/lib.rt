@@ -2,8 +2,9 @@
 // channel that no earlier one that shares a cell holds.
 ghost use mathlib.Core.Path.{_≡_};
 ghost use Prim.Native.Nat.{ℕ, _≤_, _<_};
-ghost use lib.ListN.{getD, length};
+ghost use lib.ListN.{length};
 ghost use Rattle.sums.specs.At.{NumbersBelow};
+ghost use Rattle.sums.specs.Filled.{Filled};
 ghost use Rattle.sums.specs.Lowest.{lowestFree};
 ghost use Rattle.channels.specs.HandOut.{CanHandOut, HandedOut};
 ghost use Rattle.channels.specs.Latest.{heldPast};
@@ -91,7 +92,7 @@ fn give_from(
 // Gives each of the first `count` the channel 0, which is none. It takes a slice, since lending the array as one tells how long it is.
 fn clear(count: usize, channel: &mut [usize])
     requires { ⌜ count ≤ length (now channel) ⌝ }
-    ensures { λ r. ⌜ ((j : ℕ) → j < count → getD (now (channel .exit)) j 0 ≡ 0) ⌝ }
+    ensures { λ r. ⌜ Filled (λ j. 0) count (now (channel .exit)) ⌝ }
 {
     let mut j = 0;
     while j < count {

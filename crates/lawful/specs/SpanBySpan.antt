@@ -9,7 +9,7 @@ use Rattle.sums.specs.Each.{each-at, less-or-not}
 use Rattle.sums.specs.Tests.{implied, all-three}
 use Rattle.book.specs.Book.{Book, spans, limit, count}
 use Rattle.rules.specs.Plans.{Plan, kept, channel, over, load, formed, obeys}
-use Rattle.lines.specs.Obeys.{formed-has, obeys-fair, fair-obeys}
+use Rattle.lines.specs.Obeys.{ChannelsDiffer, formed-has, obeys-fair, fair-obeys}
 use Rattle.lawful.specs.Spans.{FairOn}
 
 module _ (book : Book) (plan : Plan) where
@@ -45,8 +45,6 @@ module _ (book : Book) (plan : Plan) where
       here : (i : ℕ) → i < count book → kept plan i ≡ true → formed book plan i ≡ true
       here i l k = implied (kept plan i) _ (form i l) k
 
-      apart :
-          (i j s : ℕ) → i < count book → j < count book → s < spans book → over book plan i s ≡ true → over book plan j s ≡ true
-          → (i ≡ j → ⊥) → channel plan i ≡ channel plan j → ⊥
+      apart : ChannelsDiffer book plan
       apart i j s li lj ls oi oj ne q =
           ⊎-elim (λ h. on s ls .differ j lj i h oj oi (sym q)) (λ h. on s ls .differ i li j (omega arith) oi oj q) (less-or-not i j)

@@ -6,7 +6,7 @@ use Prim.Native.Nat.{ℕ, _≤_, _<_}
 use native.Mathlib.Omega.{arith}
 use borrow.Author.Tests.{eq-eqb}
 use Rattle.book.specs.Book.{Book, spans, limit, count}
-use Rattle.rules.specs.Plans.{Plan, kept, way, channel, over, load, obeys}
+use Rattle.rules.specs.Plans.{Plan, kept, way, channel, load, obeys}
 use Rattle.rules.specs.Channels.{byRule}
 use Rattle.row.specs.Row
 use Rattle.row.specs.Channels.{Ruled, from-one, found, told-apart, ruled-once}
@@ -14,7 +14,7 @@ use Rattle.row.specs.Same.{itself, ruled-same}
 use Rattle.lines.specs.RowOf.{rowOf}
 use Rattle.lines.specs.Line.{Line}
 use Rattle.sums.specs.Tests.{all-three}
-use Rattle.lines.specs.Obeys.{share-of, fair-obeys}
+use Rattle.lines.specs.Obeys.{ChannelsDiffer, share-of, fair-obeys}
 use Rattle.lines.specs.Ways.{line-way, proper}
 use Rattle.lines.specs.Laid.{Laid, within-row, share-meet, rule-ruled}
 use Rattle.lines.specs.Entries.{same-entry}
@@ -32,9 +32,7 @@ module _
     unfolding rowOf
     channel-found = found (rowOf book) (book .channels) (kept plan) (channel plan) fits (proper on) (rule-ruled on laid rule)
 
-    differ :
-        (i j s : ℕ) → i < count book → j < count book → s < spans book → over book plan i s ≡ true → over book plan j s ≡ true
-        → (i ≡ j → ⊥) → channel plan i ≡ channel plan j → ⊥
+    differ : ChannelsDiffer book plan
     unfolding rowOf
     differ i j s li lj ls oi oj ne =
         let meets = all-three _ _ _ (sym (share-meet on laid i j li lj) ∙ share-of book plan i j s ls oi oj) in

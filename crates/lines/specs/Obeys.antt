@@ -12,15 +12,18 @@ use Rattle.rules.specs.Ways.{wayExists}
 use Rattle.rules.specs.Plans.{Plan, kept, way, channel, over, load, share, formed, apart, obeys}
 use Rattle.sums.specs.Tests.{implied, implies, implied-by-both, both-imply, all-three}
 
+-- two kept requests crossing a common span have different channels
+abbrev pub ChannelsDiffer : Book → Plan → Type 0
+ChannelsDiffer book plan =
+    (i j s : ℕ) → i < count book → j < count book → s < spans book → over book plan i s ≡ true → over book plan j s ≡ true
+    → (i ≡ j → ⊥) → channel plan i ≡ channel plan j → ⊥
+
 pub record Fair (book : Book) (plan : Plan) : Type 0 where
   -- each kept request has a way that exists and a channel from 1 to k
   pub way-exists : (i : ℕ) → i < count book → kept plan i ≡ true → wayExists book i (way plan i) ≡ true
   pub channel-from : (i : ℕ) → i < count book → kept plan i ≡ true → 1 ≤ channel plan i
   pub channel-upto : (i : ℕ) → i < count book → kept plan i ≡ true → channel plan i ≤ book .channels
-  -- two kept requests crossing a common span have different channels
-  pub channels-differ :
-      (i j s : ℕ) → i < count book → j < count book → s < spans book → over book plan i s ≡ true → over book plan j s ≡ true
-      → (i ≡ j → ⊥) → channel plan i ≡ channel plan j → ⊥
+  pub channels-differ : ChannelsDiffer book plan
   -- no span is crossed by more kept requests than its limit
   pub within-limits : (s : ℕ) → s < spans book → load book plan s ≤ limit book s
 

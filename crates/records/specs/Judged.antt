@@ -66,17 +66,17 @@ requestTests due nodes kind mark q rest =
 
 -- ---- from what the code's tests say to the flags above: what `search` is handed where a judge returns
 
-pub same : (a b : ℕ) → a ≡ b → not (eqb a b) ≡ false
-same a b h = rw (eq-eqb a b h)
+pub flag-same : (a b : ℕ) → a ≡ b → not (eqb a b) ≡ false
+flag-same a b h = rw (eq-eqb a b h)
 
-pub other : (a b : ℕ) → (a ≡ b → ⊥) → not (eqb a b) ≡ true
-other a b h = rw (ne-eqb a b h)
+pub flag-other : (a b : ℕ) → (a ≡ b → ⊥) → not (eqb a b) ≡ true
+flag-other a b h = rw (ne-eqb a b h)
 
-pub less : (a b : ℕ) → a < b → not (ltb a b) ≡ false
-less a b h = rw (lt-ltb a b h)
+pub flag-less : (a b : ℕ) → a < b → not (ltb a b) ≡ false
+flag-less a b h = rw (lt-ltb a b h)
 
-pub no-less : (a b : ℕ) → b ≤ a → not (ltb a b) ≡ true
-no-less a b h = rw (le-ltb a b h)
+pub flag-no-less : (a b : ℕ) → b ≤ a → not (ltb a b) ≡ true
+flag-no-less a b h = rw (le-ltb a b h)
 
 -- the same of what a callee answered
 pub of-known : (shape : ℕ) (s t : Bool) → s ≡ known shape → not s ≡ t → not (known shape) ≡ t
@@ -85,4 +85,4 @@ of-known shape s t e h = rw (← e) h
 pub of-fewest : (shape n m : ℕ) (t : Bool) → m ≡ fewest shape → ltb n m ≡ t → ltb n (fewest shape) ≡ t
 of-fewest shape n m t e h = rw (← e) h
 
-pub ruleset tests = (found, passed, none, same, other, less, no-less, lt-ltb, le-ltb, eq-eqb, ne-eqb, of-known, of-fewest)
+pub ruleset tests = (found, passed, none, flag-same, flag-other, flag-less, flag-no-less, lt-ltb, le-ltb, eq-eqb, ne-eqb, of-known, of-fewest)

@@ -14,7 +14,7 @@ use Rattle.book.specs.Book.{Book, isRing, spans, limit, count}
 use Rattle.rules.specs.Ways.{wayExists}
 use Rattle.rules.specs.Plans.{Plan, kept, way, channel, over, load, earnings, numberKept, obeys}
 use Rattle.rules.specs.Cuts.{steps, spanAt, cutLine}
-use Rattle.lines.specs.Obeys.{Fair, obeys-fair, fair-obeys}
+use Rattle.lines.specs.Obeys.{ChannelsDiffer, Fair, obeys-fair, fair-obeys}
 use Rattle.rings.specs.Ring.{Ring}
 use Rattle.rings.specs.Turn.{span-of-place}
 use Rattle.rings.specs.CutLine.{ring-spans, inside, cut-spans, cut-count, cut-limit, cut-profit}
@@ -83,7 +83,7 @@ module _ {book : Book} (on : Ring book) (j : ℕ) where
         upto : (i : ℕ) → i < count book → kept plan i ≡ true → channel plan i ≤ book .channels
         upto i l k = fair .channel-upto i (known i l) k
 
-        differ : (i i′ s : ℕ) → i < count book → i′ < count book → s < spans book → over book plan i s ≡ true → over book plan i′ s ≡ true → (i ≡ i′ → ⊥) → channel plan i ≡ channel plan i′ → ⊥
+        differ : ChannelsDiffer book plan
         differ i i′ s l l′ h o o′ =
             let p = span-of-place (book .nodes) j (inside on j cut) s (omega (arith, ring-spans on)) (not-the-cut i s l h o) in
             fair .channels-differ i i′ (steps (book .nodes) (j + 1) s) (known i l) (known i′ l′) (omega (arith, cut-spans on j, p .0))
