@@ -29,7 +29,6 @@ pub extern "C" fn melyonva_plan(book: &[u8], entries: &mut [u8], prices: &mut [u
             write::write_numbers(2, made.count, &plan, entries);
             if made.shape == 1 {
                 write::write_numbers(4, made.spans, &asked, prices);
-                return pack::plan(earned, number, cut);
             }
             pack::plan(earned, number, cut)
         }

@@ -1,4 +1,5 @@
 -- `desk::melyonva_plan` meets its contract: what the planner promises, packed and written; nothing is written before its answer. Assumes nothing.
+use mathlib.Core.Logic.{⊎-elim}
 use Rattle.desk.specs.Handing.{refusal-fits, handed-refusal, numbers-fit, entries-fit, prices-fit, handed-line, handed-ring}
 use borrow.Author.Needs.{needs}
 use Rattle.desk.proofs.melyonva_plan.Statement.{statement}
@@ -33,35 +34,30 @@ write-numbers-requires-2 c κs =
 
 plan-requires : tie.Need-plan-requires
 plan-requires c κs =
-    let t = c .before .before .before .before .before .before .before .before .before .before .before .before .before in
+    let t = c .before .before .before .before .before .before .before .before in
     let p = answered t in
     numbers-fit (start p .args .entries .now) (start p .args .prices .now) (p .plan-book .ensures) (t .answer2 .given .1)
 
 returns : tie.Need-returns
 returns c =
-    let prices = c .before .before .before in
-    let entries = prices .before .before .before .before .before .before .before in
-    let t = entries .before .before .before .before in
-    let p = answered t in
-    handed-line (start p .args .entries .now) (start p .args .prices .now) (p .plan-book .ensures) (t .answer2 .given .1) (c .plan3 .ensures) (entries .write-numbers .ensures) (prices .before .before .before .if1 .taken) (prices .write-numbers2 .ensures)
-
-plan-requires-2 : tie.Need-plan-requires-2
-plan-requires-2 c κs =
-    let t = c .before .before .before .before .before .before .before .before in
-    let p = answered t in
-    numbers-fit (start p .args .entries .now) (start p .args .prices .now) (p .plan-book .ensures) (t .answer2 .given .1)
-
-returns-2 : tie.Need-returns-2
-returns-2 c =
     let p = c .before .before .before .before .before .before in
     handed-refusal (start p .args .entries .now) (start p .args .prices .now) (p .plan-book .ensures) (c .before .before .answer .given .1) (c .refusal .ensures)
 
-returns-3 : tie.Need-returns-3
-returns-3 c =
+same-length-2 : tie.Need-same-length-2
+same-length-2 c = ⊎-elim (λ x. rw (x .6) (search (needs, x .3 .kept))) (λ x. rw (x .1)) (c .before .if1 .came)
+
+-- a line's prices are written, a ring's list stays as it was
+returns-2 : tie.Need-returns-2
+returns-2 c =
     let entries = c .before .before .before .before .before in
     let t = entries .before .before .before .before in
     let p = answered t in
-    handed-ring (start p .args .entries .now) (start p .args .prices .now) (p .plan-book .ensures) (t .answer2 .given .1) (c .plan4 .ensures) (entries .write-numbers .ensures) (c .before .if1 .left)
+    ⊎-elim
+    (λ x. rw (x .6)
+    (handed-line (start p .args .entries .now) (start p .args .prices .now) (p .plan-book .ensures) (t .answer2 .given .1) (c .plan3 .ensures) (entries .write-numbers .ensures) (x .0 .taken) (x .3 .ensures)))
+    (λ x. rw (x .1)
+    (handed-ring (start p .args .entries .now) (start p .args .prices .now) (p .plan-book .ensures) (t .answer2 .given .1) (c .plan3 .ensures) (entries .write-numbers .ensures) (x .0 .left)))
+    (c .before .if1 .came)
 
 pub melyonva-plan-spec : {M : Type 1} → statement M
 melyonva-plan-spec =
@@ -76,10 +72,7 @@ melyonva-plan-spec =
     the-prices
     write-numbers-requires-2
     plan-requires
-    (λ c. search needs)
-    (λ c. search needs)
     returns
-    plan-requires-2
-    returns-2
     (λ c. search needs)
-    returns-3)
+    same-length-2
+    returns-2)
