@@ -1,4 +1,4 @@
-// crates/ceiling in plain C++: the ceiling of prices on a line.
+// crates/work_ceiling in plain C++: the ceiling of prices on a line.
 #include "method.h"
 
 namespace plain::ceiling {

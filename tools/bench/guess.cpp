@@ -1,4 +1,4 @@
-// crates/proposal's guess of prices in plain C++.
+// crates/plan_guess's guess of prices in plain C++.
 #include "method.h"
 
 namespace plain::order::guess {

@@ -1,4 +1,4 @@
-// crates/line, crates/cells and crates/channels in plain C++.
+// crates/plan_line, crates/plan_row and crates/plan_channels in plain C++.
 #include "method.h"
 
 namespace plain {

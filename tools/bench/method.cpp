@@ -1,4 +1,4 @@
-// crates/planrow in plain C++.
+// crates/plan_insert in plain C++.
 #include "method.h"
 
 namespace plain::planrow {

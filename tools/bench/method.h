@@ -38,7 +38,7 @@ Guess weigh(size_t cells, size_t count, const size_t *limits, const size_t *lo, 
 }
 void ordered(size_t cells, size_t count, const size_t *limits, const size_t *lo, const size_t *hi, const size_t *profit, size_t *order, size_t *place);
 }
-// line.cpp, with crates/channels
+// line.cpp, with crates/plan_channels
 namespace line {
 size_t best_earnings(const Columns &cols, const size_t *place, size_t *prices);
 LinePlan plan_line(const Columns &cols);
@@ -47,7 +47,7 @@ LinePlan plan_line(const Columns &cols);
 namespace ceiling {
 size_t ceiling_of(const Columns &cols, const size_t *prices);
 }
-// ring.cpp, with crates/turn
+// ring.cpp, with crates/plan_turn
 namespace ring {
 RingPlan plan_ring(const Columns &cols);
 }

@@ -1,4 +1,4 @@
-// A whole call in plain C++: reading, planning and writing, as crates/records, crates/reader, crates/planner and crates/desk have them.
+// A whole call in plain C++: reading, planning and writing, as crates/read_record, crates/read_book, crates/plan_book and crates/desk have them.
 #include "melyonva.h"
 #include "method.h"
 

@@ -1,4 +1,4 @@
-// crates/ring and crates/turn in plain C++.
+// crates/plan_ring and crates/plan_turn in plain C++.
 #include "method.h"
 
 namespace plain {

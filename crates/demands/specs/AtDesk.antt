@@ -6,19 +6,19 @@ use mathlib.Core.Path.{_≡_, refl, sym, ap, _∙_}
 use Prim.Native.Nat.{ℕ, _+_, _*_, _^_, _/_, _%_, _≤_, _<_}
 use native.Mathlib.Nat.{div-div-eq-div-mul, mod-eq-of-lt}
 use native.Mathlib.Omega.{arith}
-use Rattle.sums.specs.Each.{same-test}
-use Rattle.book.specs.Bytes.{byte, two, four, entryIn, priceIn, entryPlaces, pricePlaces}
-use Rattle.book.specs.Book.{Book, spans, count}
-use Rattle.book.specs.InWords.{LongEnough}
-use Rattle.book.specs.Reading.{done, reading}
-use Rattle.book.specs.Sound.{sound}
-use Rattle.rules.specs.Plans.{Plan, Best}
-use Rattle.rules.specs.Prices.{Prices, verdict}
-use Rattle.rules.specs.Operations.{plannable, checker, Priced}
-use Rattle.lines.specs.Line.{Line}
-use Rattle.lines.specs.Ceiling.{yes-for-best, no-for-others}
-use Rattle.verdict.specs.Demand3.{is-verdict}
-use Rattle.planner.specs.Cases.{plannable-read}
+use Rattle.base_sums.specs.Each.{same-test}
+use Rattle.paper_book.specs.Bytes.{byte, two, four, entryIn, priceIn, entryPlaces, pricePlaces}
+use Rattle.paper_book.specs.Book.{Book, spans, count}
+use Rattle.paper_book.specs.InWords.{LongEnough}
+use Rattle.paper_book.specs.Reading.{done, reading}
+use Rattle.paper_book.specs.Sound.{sound}
+use Rattle.paper_rules.specs.Plans.{Plan, Best}
+use Rattle.paper_rules.specs.Prices.{Prices, verdict}
+use Rattle.paper_rules.specs.Operations.{plannable, checker, Priced}
+use Rattle.law_line.specs.Line.{Line}
+use Rattle.law_line.specs.Ceiling.{yes-for-best, no-for-others}
+use Rattle.check_plan.specs.Demand3.{is-verdict}
+use Rattle.plan_book.specs.Cases.{plannable-read}
 use Rattle.desk.specs.Packing.{packedVerdict}
 use Rattle.desk.specs.Promise.{Written, EntriesWritten, PricesWritten, Handed, PlanAnswer}
 use Rattle.desk.specs.Bounds.{long-enough}

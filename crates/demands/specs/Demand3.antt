@@ -4,18 +4,18 @@ use mathlib.Core.Bool.{true, false}
 use mathlib.Core.List.{List}
 use mathlib.Core.Path.{_≡_}
 use Prim.Native.Nat.{ℕ}
-use Rattle.book.specs.Book.{Book}
-use Rattle.book.specs.Columns.{at}
-use Rattle.book.specs.Reading.{done}
-use Rattle.rules.specs.Plans.{Plan, Best}
-use Rattle.rules.specs.Prices.{verdict}
-use Rattle.rules.specs.Operations.{plannableIn}
-use Rattle.lines.specs.Line.{Line}
-use Rattle.lines.specs.Ceiling.{yes-for-best, no-for-others}
-use Rattle.planner.specs.declared.BookPlan.{BookPlan}
-use Rattle.planner.specs.Promise.{PlanOf, BookPlanned}
+use Rattle.paper_book.specs.Book.{Book}
+use Rattle.paper_book.specs.Columns.{at}
+use Rattle.paper_book.specs.Reading.{done}
+use Rattle.paper_rules.specs.Plans.{Plan, Best}
+use Rattle.paper_rules.specs.Prices.{verdict}
+use Rattle.paper_rules.specs.Operations.{plannableIn}
+use Rattle.law_line.specs.Line.{Line}
+use Rattle.law_line.specs.Ceiling.{yes-for-best, no-for-others}
+use Rattle.plan_book.specs.declared.BookPlan.{BookPlan}
+use Rattle.plan_book.specs.Promise.{PlanOf, BookPlanned}
 
--- what `planner::plan_book` answers for a line's book with lists long enough
+-- what `plan_book::plan_book` answers for a line's book with lists long enough
 module _ {file : List ℕ} {entryRoom priceRoom : ℕ} {r : BookPlan} (planned : BookPlanned file entryRoom priceRoom r)
     {book : Book} (long : plannableIn file entryRoom priceRoom ≡ done book) (line : book .shape ≡ 1)
   where

@@ -6,23 +6,23 @@ use mathlib.Core.Logic.{⊎-elim}
 use mathlib.Core.Path.{_≡_, sym, ap, subst, _∙_}
 use Prim.Native.Nat.{ℕ, _<_}
 use native.Mathlib.Omega.{arith}
-use Rattle.sums.specs.Sums.{Σ-ext, bit}
-use Rattle.sums.specs.Vacant.{vacant-same}
-use Rattle.book.specs.Book.{Book, spans, count}
-use Rattle.book.specs.Columns.{at}
-use Rattle.book.specs.Sound.{Sound}
-use Rattle.rules.specs.Plans.{Plan, kept, numberKept, earnings, Best}
-use Rattle.rules.specs.Prices.{Prices, verdict}
-use Rattle.rules.specs.Operations.{Planned, Priced}
-use Rattle.lines.specs.Line.{Line}
-use Rattle.lines.specs.Laid.{obeys-laid}
-use Rattle.lines.specs.Found.{rule-once}
-use Rattle.lines.specs.Ceiling.{yes-best, yes-for-best}
-use Rattle.rings.specs.Demand2.{earnings-once}
-use Rattle.rings.specs.PlanLine.{line-plan, ring-plan, line-for}
-use Rattle.planner.specs.declared.BookPlan.{BookPlan}
-use Rattle.planner.specs.Promise.{PlanOf}
-use Rattle.planner.specs.Cases.{is-plan, parts-same}
+use Rattle.base_sums.specs.Sums.{Σ-ext, bit}
+use Rattle.base_sums.specs.Vacant.{vacant-same}
+use Rattle.paper_book.specs.Book.{Book, spans, count}
+use Rattle.paper_book.specs.Columns.{at}
+use Rattle.paper_book.specs.Sound.{Sound}
+use Rattle.paper_rules.specs.Plans.{Plan, kept, numberKept, earnings, Best}
+use Rattle.paper_rules.specs.Prices.{Prices, verdict}
+use Rattle.paper_rules.specs.Operations.{Planned, Priced}
+use Rattle.law_line.specs.Line.{Line}
+use Rattle.law_line.specs.Laid.{obeys-laid}
+use Rattle.law_line.specs.Found.{rule-once}
+use Rattle.law_line.specs.Ceiling.{yes-best, yes-for-best}
+use Rattle.law_ring.specs.Demand2.{earnings-once}
+use Rattle.law_ring.specs.PlanLine.{line-plan, ring-plan, line-for}
+use Rattle.plan_book.specs.declared.BookPlan.{BookPlan}
+use Rattle.plan_book.specs.Promise.{PlanOf}
+use Rattle.plan_book.specs.Cases.{is-plan, parts-same}
 
 module _ {book : Book} (sound : Sound book) {plan other : Plan} {earned number cut₁ earned′ number′ cut₂ : ℕ}
     (p : Planned book plan earned number cut₁) (q : Planned book other earned′ number′ cut₂)

@@ -6,11 +6,11 @@ use mathlib.Core.Path.{_≡_, sym, _∙_}
 use Prim.Native.Nat.{ℕ, _+_, _-_, _*_, _^_, _/_, _%_, _≤_, _<_}
 use native.Mathlib.Omega.{arith}
 use lib.Seq.{ext-getD}
-use Rattle.sums.specs.Each.{less-or-not}
-use Rattle.book.specs.Bytes.{byte}
-use Rattle.book.specs.Book.{Book, spans, count}
-use Rattle.book.specs.Sound.{Sound}
-use Rattle.rules.specs.Plans.{kept}
+use Rattle.base_sums.specs.Each.{less-or-not}
+use Rattle.paper_book.specs.Bytes.{byte}
+use Rattle.paper_book.specs.Book.{Book, spans, count}
+use Rattle.paper_book.specs.Sound.{Sound}
+use Rattle.paper_rules.specs.Plans.{kept}
 use Rattle.desk.specs.Promise.{Handed}
 use Rattle.desk.specs.Unpacking.{handed-told}
 use Rattle.demands.specs.Equal.{cut-equal, earned-equal, number-equal, entries-equal}

@@ -5,12 +5,12 @@ use mathlib.Core.Path.{_≡_, sym, ap, ap₂, _∙_}
 use Prim.Native.Nat.{ℕ, _<_}
 use lib.ListN.{length, take, drop, take-append-drop}
 use lib.Seq.{length-take-le}
-use Rattle.book.specs.Book.{Book, count}
-use Rattle.book.specs.Reading.{done, refused, reading}
-use Rattle.book.specs.Sound.{Sound, sound}
-use Rattle.rules.specs.Plans.{kept}
-use Rattle.print.specs.Printed.{same-entries}
-use Rattle.page.specs.Page.{PlanPage, Paged}
+use Rattle.paper_book.specs.Book.{Book, count}
+use Rattle.paper_book.specs.Reading.{done, refused, reading}
+use Rattle.paper_book.specs.Sound.{Sound, sound}
+use Rattle.paper_rules.specs.Plans.{kept}
+use Rattle.page_plan.specs.Printed.{same-entries}
+use Rattle.page_book.specs.Page.{PlanPage, Paged}
 use Rattle.demands.specs.Equal.{cut-equal, earned-equal, number-equal, entries-equal}
 
 -- the first r bytes of one buffer are the first r′ of the other, and buffers that were equal before are equal after

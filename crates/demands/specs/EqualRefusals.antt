@@ -3,18 +3,18 @@
 use mathlib.Core.List.{List}
 use mathlib.Core.Path.{_≡_, sym, _∙_}
 use Prim.Native.Nat.{ℕ}
-use Rattle.book.specs.Reading.{refused}
-use Rattle.rules.specs.Operations.{plannable, checker}
-use Rattle.records.specs.declared.Refusal.{Refusal}
-use Rattle.reader.specs.declared.Taken.{Taken}
-use Rattle.reader.specs.Says.{Reads}
-use Rattle.reader.specs.Accepted.{taken-once}
-use Rattle.verdict.specs.declared.Checked.{Checked}
-use Rattle.verdict.specs.Checked.{checkedOf, same-checked}
-use Rattle.planner.specs.declared.Answer.the-variants as Planner
-use Rattle.planner.specs.declared.BookPlan.{BookPlan}
-use Rattle.planner.specs.Promise.{BookPlanned}
-use Rattle.planner.specs.Cases.{is-refused, refused-once}
+use Rattle.paper_book.specs.Reading.{refused}
+use Rattle.paper_rules.specs.Operations.{plannable, checker}
+use Rattle.read_record.specs.declared.Refusal.{Refusal}
+use Rattle.read_book.specs.declared.Taken.{Taken}
+use Rattle.read_book.specs.Says.{Reads}
+use Rattle.read_book.specs.Accepted.{taken-once}
+use Rattle.check_plan.specs.declared.Checked.{Checked}
+use Rattle.check_plan.specs.Checked.{checkedOf, same-checked}
+use Rattle.plan_book.specs.declared.Answer.the-variants as Planner
+use Rattle.plan_book.specs.declared.BookPlan.{BookPlan}
+use Rattle.plan_book.specs.Promise.{BookPlanned}
+use Rattle.plan_book.specs.Cases.{is-refused, refused-once}
 use Rattle.desk.specs.Promise.{PlanAnswer}
 
 -- reading: the same value, with all that stands beside the answer, accepted or refused

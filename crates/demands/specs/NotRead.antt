@@ -5,15 +5,15 @@ use mathlib.Core.List.{List}
 use mathlib.Core.Path.{_≡_, refl, ap, ap₂}
 use Prim.Native.Nat.{ℕ, _<_}
 use lib.Dec.{leb}
-use Rattle.sums.specs.Each.{each-ext, first-ext}
-use Rattle.sums.specs.Sums.{Σ-ext}
-use Rattle.book.specs.Bytes.{entryIn, priceIn}
-use Rattle.book.specs.Book.{Book, spans, limit, count}
-use Rattle.book.specs.Reading.{Outcome, done, refused, andThen, reading}
-use Rattle.rules.specs.Plans.{Plan, kept, way, channel, earnings, over, load, share, formed, apart, obeys}
-use Rattle.rules.specs.Prices.{Prices, verdict}
-use Rattle.rules.specs.Operations.{tooShort, tooDear, checking, checker}
-use Rattle.ceiling.specs.Same.{ceiling-same}
+use Rattle.base_sums.specs.Each.{each-ext, first-ext}
+use Rattle.base_sums.specs.Sums.{Σ-ext}
+use Rattle.paper_book.specs.Bytes.{entryIn, priceIn}
+use Rattle.paper_book.specs.Book.{Book, spans, limit, count}
+use Rattle.paper_book.specs.Reading.{Outcome, done, refused, andThen, reading}
+use Rattle.paper_rules.specs.Plans.{Plan, kept, way, channel, earnings, over, load, share, formed, apart, obeys}
+use Rattle.paper_rules.specs.Prices.{Prices, verdict}
+use Rattle.paper_rules.specs.Operations.{tooShort, tooDear, checking, checker}
+use Rattle.work_ceiling.specs.Same.{ceiling-same}
 
 -- a plan counts by its entries below m
 module _ (book : Book) {plan other : Plan} (same : (i : ℕ) → i < count book → plan i ≡ other i) where

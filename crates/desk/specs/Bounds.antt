@@ -9,25 +9,25 @@ use native.Mathlib.Omega.{arith}
 use borrow.Author.Tests.{ltb-true}
 use lib.Dec.{ltb}
 use lib.ListN.{length}
-use Rattle.sums.specs.Each.{less-or-not, not-above}
-use Rattle.sums.specs.Sums.{when, bit, when-le, bit-le, Σ-most}
-use Rattle.book.specs.Book.{Book, isRing, spans, count, profit}
-use Rattle.book.specs.Bytes.{entryIn, priceIn}
-use Rattle.book.specs.Sound.{Sound, sound, spans-small, few-spans}
-use Rattle.book.specs.Refusals.{records, spansIn, nodesIn, shapeIn}
-use Rattle.book.specs.Reading.{Outcome, done, refused, andThen, due, reading, refused-not-done}
-use Rattle.book.specs.Means.{not-so}
-use Rattle.book.specs.InWords.{row-1, nodes-in-range, LongEnough, long-lists}
-use Rattle.book.specs.Laws.{Given, refused-given}
-use Rattle.rules.specs.Plans.{Plan, kept, earnings, numberKept}
-use Rattle.rules.specs.Cuts.{cutShown}
-use Rattle.rules.specs.Prices.{verdict}
-use Rattle.rules.specs.Operations.{placesShort, tooShort, tooDear, checking, checker, plannableIn, Planned}
-use Rattle.rings.specs.Ring.{Ring}
-use Rattle.rings.specs.CutLine.{ring-spans}
-use Rattle.rings.specs.Choice.{cut-in}
-use Rattle.rings.specs.PlanLine.{line-shown, ring-shown}
-use Rattle.planner.specs.Cases.{plannable-read, plannable-refused}
+use Rattle.base_sums.specs.Each.{less-or-not, not-above}
+use Rattle.base_sums.specs.Sums.{when, bit, when-le, bit-le, Σ-most}
+use Rattle.paper_book.specs.Book.{Book, isRing, spans, count, profit}
+use Rattle.paper_book.specs.Bytes.{entryIn, priceIn}
+use Rattle.paper_book.specs.Sound.{Sound, sound, spans-small, few-spans}
+use Rattle.paper_book.specs.Refusals.{records, spansIn, nodesIn, shapeIn}
+use Rattle.paper_book.specs.Reading.{Outcome, done, refused, andThen, due, reading, refused-not-done}
+use Rattle.paper_book.specs.Means.{not-so}
+use Rattle.paper_book.specs.InWords.{row-1, nodes-in-range, LongEnough, long-lists}
+use Rattle.paper_book.specs.Laws.{Given, refused-given}
+use Rattle.paper_rules.specs.Plans.{Plan, kept, earnings, numberKept}
+use Rattle.paper_rules.specs.Cuts.{cutShown}
+use Rattle.paper_rules.specs.Prices.{verdict}
+use Rattle.paper_rules.specs.Operations.{placesShort, tooShort, tooDear, checking, checker, plannableIn, Planned}
+use Rattle.law_ring.specs.Ring.{Ring}
+use Rattle.law_ring.specs.CutLine.{ring-spans}
+use Rattle.law_ring.specs.Choice.{cut-in}
+use Rattle.law_ring.specs.PlanLine.{line-shown, ring-shown}
+use Rattle.plan_book.specs.Cases.{plannable-read, plannable-refused}
 
 -- a number and a place that a refusal carries
 pub record SmallRefusal (number place : ℕ) : Type 0 where

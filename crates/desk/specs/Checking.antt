@@ -2,12 +2,12 @@
 use mathlib.Core.List.{List}
 use mathlib.Core.Path.{_≡_, sym, ap, _∙_}
 use Prim.Native.Nat.{ℕ}
-use Rattle.book.specs.Reading.{refused}
-use Rattle.rules.specs.Operations.{checker}
-use Rattle.records.specs.declared.Refusal.{Refusal}
-use Rattle.verdict.specs.declared.Checked.{Checked}
-use Rattle.verdict.specs.declared.Checked.the-variants.{Yes, No, Refused}
-use Rattle.verdict.specs.Checked.{checkedOf}
+use Rattle.paper_book.specs.Reading.{refused}
+use Rattle.paper_rules.specs.Operations.{checker}
+use Rattle.read_record.specs.declared.Refusal.{Refusal}
+use Rattle.check_plan.specs.declared.Checked.{Checked}
+use Rattle.check_plan.specs.declared.Checked.the-variants.{Yes, No, Refused}
+use Rattle.check_plan.specs.Checked.{checkedOf}
 use Rattle.desk.specs.Packing.{packedRefusal, packedVerdict}
 use Rattle.desk.specs.Bounds.{SmallRefusal, checker-small}
 

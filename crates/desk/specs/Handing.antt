@@ -5,20 +5,20 @@ use mathlib.Core.Path.{_≡_, refl, sym, _∙_}
 use Prim.Native.Nat.{ℕ, _/_}
 use native.Mathlib.Omega.{arith}
 use lib.ListN.{length}
-use Rattle.book.specs.Bytes.{entryPlaces, pricePlaces}
-use Rattle.book.specs.Book.{Book, spans, count}
-use Rattle.book.specs.Columns.{at}
-use Rattle.book.specs.InWords.{LongEnough}
-use Rattle.book.specs.Reading.{done, refused, refused-not-done}
-use Rattle.book.specs.Sound.{few-spans}
-use Rattle.rules.specs.Operations as O
-use Rattle.rules.specs.Operations.{plannable}
-use Rattle.print.specs.Fair.{fair-printable}
-use Rattle.records.specs.declared.Refusal.{Refusal}
-use Rattle.planner.specs.declared.Answer.the-variants.{Planned, Refused}
-use Rattle.planner.specs.declared.BookPlan.{BookPlan}
-use Rattle.planner.specs.Promise.{PlanOf, BookPlanned}
-use Rattle.planner.specs.Cases.{plan-answered, is-refused, is-planned, plan-holds}
+use Rattle.paper_book.specs.Bytes.{entryPlaces, pricePlaces}
+use Rattle.paper_book.specs.Book.{Book, spans, count}
+use Rattle.paper_book.specs.Columns.{at}
+use Rattle.paper_book.specs.InWords.{LongEnough}
+use Rattle.paper_book.specs.Reading.{done, refused, refused-not-done}
+use Rattle.paper_book.specs.Sound.{few-spans}
+use Rattle.paper_rules.specs.Operations as O
+use Rattle.paper_rules.specs.Operations.{plannable}
+use Rattle.page_plan.specs.Fair.{fair-printable}
+use Rattle.read_record.specs.declared.Refusal.{Refusal}
+use Rattle.plan_book.specs.declared.Answer.the-variants.{Planned, Refused}
+use Rattle.plan_book.specs.declared.BookPlan.{BookPlan}
+use Rattle.plan_book.specs.Promise.{PlanOf, BookPlanned}
+use Rattle.plan_book.specs.Cases.{plan-answered, is-refused, is-planned, plan-holds}
 use Rattle.desk.specs.Packing.{packedRefusal, packedPlan}
 use Rattle.desk.specs.Promise.{EntriesWritten, PricesWritten, Handed, PlanAnswer}
 use Rattle.desk.specs.Bounds.{SmallRefusal, SmallPlan, refusal-small, plan-small, long-enough}

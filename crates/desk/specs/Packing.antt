@@ -2,7 +2,7 @@
 -- Assumes nothing.
 use mathlib.Core.Bool.{Bool, true, false}
 use Prim.Native.Nat.{ℕ, _+_, _*_, _^_}
-use Rattle.book.specs.Reading.{Outcome, done, refused}
+use Rattle.paper_book.specs.Reading.{Outcome, done, refused}
 
 -- a refusal: the highest bit, then 31 bits of its number, then 32 bits of its place
 unfoldable pub packedRefusal : ℕ → ℕ → ℕ

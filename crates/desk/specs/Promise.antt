@@ -3,12 +3,12 @@ use mathlib.Core.List.{List}
 use mathlib.Core.Path.{_≡_}
 use Prim.Native.Nat.{ℕ, _+_, _*_, _^_, _/_, _%_, _≤_, _<_}
 use lib.ListN.{length}
-use Rattle.book.specs.Bytes.{byte}
-use Rattle.book.specs.Book.{Book, spans, count}
-use Rattle.book.specs.Reading.{done, refused}
-use Rattle.rules.specs.Plans.{Plan}
-use Rattle.rules.specs.Prices.{Prices}
-use Rattle.rules.specs.Operations.{plannable, Planned, Priced}
+use Rattle.paper_book.specs.Bytes.{byte}
+use Rattle.paper_book.specs.Book.{Book, spans, count}
+use Rattle.paper_book.specs.Reading.{done, refused}
+use Rattle.paper_rules.specs.Plans.{Plan}
+use Rattle.paper_rules.specs.Prices.{Prices}
+use Rattle.paper_rules.specs.Operations.{plannable, Planned, Priced}
 use Rattle.desk.specs.Packing.{packedRefusal, packedPlan}
 
 -- The first n numbers are written in w bytes each, high byte first, and every later byte is what it was. A byte with k of its number's bytes before it and

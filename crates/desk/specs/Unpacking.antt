@@ -7,13 +7,13 @@ use Prim.Native.Nat.{ℕ, _+_, _*_, _^_, _/_, _%_}
 use native.Mathlib.Omega.{arith}
 use borrow.Author.Tests.{le-ltb}
 use lib.Dec.{ltb, eqb}
-use Rattle.sums.specs.Sums.{bit}
-use Rattle.book.specs.Book.{Book}
-use Rattle.book.specs.Bytes.{entryPlaces, pricePlaces}
-use Rattle.book.specs.Sound.{Sound, sound}
-use Rattle.book.specs.Reading.{Outcome, done, refused}
-use Rattle.rules.specs.Operations.{checker, plannable}
-use Rattle.planner.specs.Cases.{plannable-read}
+use Rattle.base_sums.specs.Sums.{bit}
+use Rattle.paper_book.specs.Book.{Book}
+use Rattle.paper_book.specs.Bytes.{entryPlaces, pricePlaces}
+use Rattle.paper_book.specs.Sound.{Sound, sound}
+use Rattle.paper_book.specs.Reading.{Outcome, done, refused}
+use Rattle.paper_rules.specs.Operations.{checker, plannable}
+use Rattle.plan_book.specs.Cases.{plannable-read}
 use Rattle.desk.specs.Packing.{packedRefusal, packedPlan, packedVerdict}
 use Rattle.desk.specs.Promise.{Handed, PlanAnswer}
 use Rattle.desk.specs.Bounds.{SmallRefusal, SmallPlan, refusal-small, plan-small, checker-small}

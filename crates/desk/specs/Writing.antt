@@ -7,10 +7,10 @@ use Prim.Native.Nat.{ℕ, suc, _+_, _-_, _*_, _^_, _/_, _%_, _≤_, _<_}
 use native.Mathlib.Nat.{pow-suc, div-one, div-div-eq-div-mul, mul-le-mul-left}
 use native.Mathlib.Omega.{arith}
 use lib.ListN.{length, set, length-set}
-use Rattle.sums.specs.At.{Stored, store}
-use Rattle.sums.specs.Each.{less-or-not}
-use Rattle.book.specs.Bytes.{byte}
-use Rattle.book.specs.Columns.{at}
+use Rattle.base_sums.specs.At.{Stored, store}
+use Rattle.base_sums.specs.Each.{less-or-not}
+use Rattle.paper_book.specs.Bytes.{byte}
+use Rattle.paper_book.specs.Columns.{at}
 use Rattle.desk.specs.Promise.{Written}
 
 -- ---- one number

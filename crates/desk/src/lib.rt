@@ -3,11 +3,11 @@ mod pack;
 mod write;
 
 ghost use mathlib.Core.Path.{_≡_};
-ghost use Rattle.rules.specs.Operations.{checker};
+ghost use Rattle.paper_rules.specs.Operations.{checker};
 ghost use Rattle.desk.specs.Packing.{packedVerdict};
 ghost use Rattle.desk.specs.Promise.{PlanAnswer};
-use planner::Answer;
-use verdict::Checked;
+use check_plan::Checked;
+use plan_book::Answer;
 
 // Plans the book. On success the entries are written, and on a line the prices, and the answer packs earnings, number kept and cut; on a refusal nothing
 // is written, and the answer packs its number and place.
@@ -15,7 +15,7 @@ use verdict::Checked;
 pub extern "C" fn melyonva_plan(book: &[u8], entries: &mut [u8], prices: &mut [u8]) -> u64
     ensures { λ r. ⌜ PlanAnswer (now (book .entry)) (now (entries .entry)) (now (prices .entry)) r (now (entries .exit)) (now (prices .exit)) ⌝ }
 {
-    let made = planner::plan_book(book, entries.len() / 2, prices.len() / 4);
+    let made = plan_book::plan_book(book, entries.len() / 2, prices.len() / 4);
     let answer = made.answer;
     let plan = made.entries;
     let asked = made.prices;
@@ -40,7 +40,7 @@ pub extern "C" fn melyonva_plan(book: &[u8], entries: &mut [u8], prices: &mut [u
 pub extern "C" fn melyonva_check(book: &[u8], entries: &[u8], prices: &[u8]) -> u64
     ensures { λ r. ⌜ r ≡ packedVerdict (checker (now (book .entry)) (now (entries .entry)) (now (prices .entry))) ⌝ }
 {
-    let checked = verdict::check_plan(book, entries, prices);
+    let checked = check_plan::check_plan(book, entries, prices);
     match checked {
         Checked::Yes => 1,
         Checked::No => 0,

@@ -1,7 +1,7 @@
 // Numbers into the desk's lists, high byte first.
 ghost use Prim.Native.Nat.{_+_, _≤_};
 ghost use lib.ListN.{length};
-ghost use Rattle.book.specs.Columns.{at};
+ghost use Rattle.paper_book.specs.Columns.{at};
 ghost use Rattle.desk.specs.Promise.{Written};
 ghost use Rattle.desk.specs.Writing.{NumberPut, Fit};
 

@@ -2,7 +2,7 @@
 use mathlib.Core.Path.{_≡_}
 use Prim.Native.Nat.{_-_, _≤_}
 use native.Mathlib.Omega.{arith}
-use Rattle.book.specs.Columns.{at}
+use Rattle.paper_book.specs.Columns.{at}
 use Rattle.desk.specs.Promise.{Written}
 use Rattle.desk.specs.Writing.{room-for, written-none, written-more}
 use Rattle.desk.proofs.write.write_numbers.Statement.{statement}

@@ -1,7 +1,0 @@
--- `planner::refuse` meets its contract: the refusal, and zeros beside it. Assumes nothing.
-use Rattle.planner.specs.Held.{refuses}
-use Rattle.planner.proofs.refuse.Statement.{statement}
-use Rattle.planner.proofs.refuse.Tie as tie
-
-pub refuse-spec : {M : Type 1} → statement M
-refuse-spec = tie.close (tie.spec (λ c. refuses (c .args .refusal)))
