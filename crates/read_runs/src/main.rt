@@ -3,6 +3,7 @@ ghost use mathlib.Core.Path.{_≡_};
 ghost use Rattle.paper_book.specs.Reading.{reading};
 ghost use Rattle.read_runs.specs.Told.{isRefused, isDone};
 use read_book::Answer;
+use read_record::Refusal;
 
 // A line of two nodes and three channels, a span of limit 3, and a request 0 to 1 of profit 1,000,000.
 const BOOK: [u8; 48] = [
