@@ -3,7 +3,7 @@
 -- out, not marked or with a limit above k then follow from the law of when a refusal is given. Assumes nothing.
 use Rattle.std.specs.Prelude.{◌≡◌, refl, Bool, true, false, not, ◌&&◌, cond, List, ◌↔◌, ◌⊎◌, ℕ, zero, suc, ◌+◌, ◌-◌, ◌%◌, ◌≤◌, ◌<◌, length, ltb, eqb}
 use Rattle.std.proofs.Common.{inl, inr, ⊎_elim, arith, below_more}
-use Rattle.std.proofs.Math.Logic.{Iff·trans}
+use Rattle.std.proofs.Math.Logic.Iff
 use Rattle.base_sums.specs.Each.{not_above}
 use Rattle.paper_book.specs.Bytes.{byte, blank}
 use Rattle.paper_book.specs.Book.{Book}
@@ -59,7 +59,7 @@ too_few n shape = by (eqb shape 2) refl
 
 pub row_3 : (f : List ℕ) (r : ℕ) → broken f r 3 ≡ true ↔ Row3 f r
 unfolding rows nodes_wrong
-row_3 f r = and same (Iff·trans (or (too_few (nodes_in f) (shape_in f)) less) to_the_right)
+row_3 f r = and same (Iff.trans (or (too_few (nodes_in f) (shape_in f)) less) to_the_right)
 
 -- where it is not broken the nodes are within the range
 pub record NodesInRange (f : List ℕ) : Type 0 where
@@ -119,7 +119,7 @@ row_7 f r = and₃ less at_most less
 
 -- record r stands after the network and the s spans
 after : {s r : ℕ} → (ltb s r && ltb 0 r) ≡ true ↔ s < r
-after {s} {r} = Iff·trans (and less (less {a = 0} {b = r})) (λ w. w.0, λ h. (h, omega arith))
+after {s} {r} = Iff.trans (and less (less {a = 0} {b = r})) (λ w. w.0, λ h. (h, omega arith))
 
 -- 8: a 257th record stands after the spans
 abbrev pub Row8 : List ℕ → ℕ → Type 0
@@ -127,7 +127,7 @@ Row8 f r = spans_in f + 256 < r
 
 pub row_8 : (f : List ℕ) (r : ℕ) → broken f r 8 ≡ true ↔ Row8 f r
 unfolding rows too_many
-row_8 f r = Iff·trans (and (after {s = spans_in f} {r = r}) less) (λ w. w.1, λ h. (omega arith, h))
+row_8 f r = Iff.trans (and (after {s = spans_in f} {r = r}) less) (λ w. w.1, λ h. (omega arith, h))
 
 -- 9: a request's byte 0, byte 1, number or bytes 12–15 are wrong
 abbrev pub Row9 : List ℕ → ℕ → Type 0
@@ -168,7 +168,7 @@ abbrev pub LongEnough : (shape spans count entryRoom priceRoom : ℕ) → Type 0
 LongEnough shape spans count entryRoom priceRoom = (count ≤ entryRoom) × (shape ≡ 1 → spans ≤ priceRoom)
 
 pub long_lists : {shape spans count entryRoom priceRoom : ℕ} → short_of shape spans count entryRoom priceRoom ≡ false ↔ LongEnough shape spans count entryRoom priceRoom
-long_lists = Iff·trans (not_so (row_12 _ _ _ _ _)) (
+long_lists = Iff.trans (not_so (row_12 _ _ _ _ _)) (
   λ long. (not_above (λ h. long (inl h)), λ line. not_above (λ h. long (inr (line, h)))),
   λ enough. ⊎_elim (λ h. omega (arith, enough.0)) (λ w. omega (arith, w.1, enough.1 w.0)),
 )

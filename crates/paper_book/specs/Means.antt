@@ -2,7 +2,7 @@
 -- put together alike, so that the law of a row is built as the row is. Assumes nothing.
 use Rattle.std.specs.Prelude.{◌≡◌, Bool, true, false, not, ◌&&◌, ◌||◌, ◌↔◌, ◌⊎◌, ℕ, ◌≤◌, ◌<◌, ltb, leb, eqb}
 use Rattle.std.proofs.Common.{sym, ◌∙◌, inl, inr, ⊎_elim, ltb-true, ltb-false, leb-true, eqb-true, lt-ltb, le-ltb, le-leb, eq-eqb}
-use Rattle.std.proofs.Math.Logic.{Iff·trans}
+use Rattle.std.proofs.Math.Logic.Iff
 use Rattle.std.proofs.lemmas.Bool.{not-true}
 use Rattle.base_sums.specs.Each.{each, each_at, each_breaks, both, left_of, right_of, either, or_left, or_right, fails, of_yes}
 
@@ -39,17 +39,17 @@ module _ {s t : Bool} {P Q : Type 0} (p : s ≡ true ↔ P) (q : t ≡ true ↔ 
   or = (λ e. ⊎_elim (λ x. inl (p.0 x)) (λ y. inr (q.0 y)) (either s t e), ⊎_elim (λ x. or_left s t (p.1 x)) (λ y. or_right s t (q.1 y)))
 
 pub and₃ : {s t u : Bool} {P Q R : Type 0} → s ≡ true ↔ P → t ≡ true ↔ Q → u ≡ true ↔ R → (s && t && u) ≡ true ↔ P × Q × R
-and₃ p q r = Iff·trans (and (and p q) r) (λ w. (w.0.0, w.0.1, w.1), λ w. ((w.0, w.1), w.2))
+and₃ p q r = Iff.trans (and (and p q) r) (λ w. (w.0.0, w.0.1, w.1), λ w. ((w.0, w.1), w.2))
 
 -- tests are grouped to the left, words to the right
 pub to_the_right : {P Q R : Type 0} → (P ⊎ Q) ⊎ R ↔ P ⊎ Q ⊎ R
 to_the_right = (⊎_elim (⊎_elim inl (λ y. inr (inl y))) (λ z. inr (inr z)), ⊎_elim (λ x. inl (inl x)) (⊎_elim (λ y. inl (inr y)) inr))
 
 pub or₃ : {s t u : Bool} {P Q R : Type 0} → s ≡ true ↔ P → t ≡ true ↔ Q → u ≡ true ↔ R → (s || t || u) ≡ true ↔ P ⊎ Q ⊎ R
-or₃ p q r = Iff·trans (or (or p q) r) to_the_right
+or₃ p q r = Iff.trans (or (or p q) r) to_the_right
 
 pub or₄ : {s t u v : Bool} {P Q R S : Type 0} → s ≡ true ↔ P → t ≡ true ↔ Q → u ≡ true ↔ R → v ≡ true ↔ S → (s || t || u || v) ≡ true ↔ P ⊎ Q ⊎ R ⊎ S
-or₄ p q r s = Iff·trans (or₃ (or p q) r s) to_the_right
+or₄ p q r s = Iff.trans (or₃ (or p q) r s) to_the_right
 
 -- ---- not for each
 

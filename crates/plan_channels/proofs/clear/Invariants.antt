@@ -1,0 +1,14 @@
+-- `plan_channels::clear` meets its contract. The first j channels are 0 and the list is as long as it came: a store makes the next one 0 and leaves the others.
+-- Each turn leaves one fewer. Assumes nothing.
+use mathlib.Core.Path.{◌≡◌, refl, ◌∙◌}
+use Prim.Native.Nat.{◌-◌, ◌≤◌}
+use native.Mathlib.Omega.{arith}
+use lib.ListN.{length, length-set}
+use Rattle.base_sums.specs.Filled.{Filled, filled_none, filled_more}
+use Rattle.plan_channels.proofs.clear.Given as goal
+
+abbrev pub invariant-loop-j : goal.invariant-loop-j
+invariant-loop-j l = (l.j ≤ l.count) × (length l.channel ≡ length l.initial.channel) × Filled (λ i. 0) l.j l.channel
+
+abbrev pub decreases-loop-j : goal.decreases-loop-j
+decreases-loop-j l = l.count - l.j
