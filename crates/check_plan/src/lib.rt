@@ -13,7 +13,7 @@ mod places;
 mod totals;
 
 // What checking a plan comes to: yes, no, or a refusal with its number and place.
-#[derive(Drop)]
+#[derive(Clone, Copy)]
 pub enum Checked {
     Yes,
     No,

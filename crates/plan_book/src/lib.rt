@@ -11,7 +11,7 @@ use read_record::{Network, Refusal, Request};
 use work_columns::RequestColumns;
 
 // What planning a book comes to.
-#[derive(Drop)]
+#[derive(Clone, Copy)]
 pub enum Answer {
     Planned {
         earned: usize,
@@ -23,7 +23,7 @@ pub enum Answer {
 
 // The answer; where it is `Planned`, the book's shape, its numbers of spans and requests, both ends of each request, an entry for each request and, on a
 // line, a price for each span. (An enum holds no array.)
-#[derive(Drop)]
+#[derive(Clone, Copy)]
 pub struct BookPlan {
     pub answer: Answer,
     pub shape: usize,
@@ -69,7 +69,7 @@ fn answer_of(solved: Solved, cut: usize) -> Answer
 }
 
 // What the planner of a line or of a ring finds: the answer, an entry for each request and, on a line, a price for each span.
-#[derive(Drop)]
+#[derive(Clone, Copy)]
 struct Found {
     answer: Answer,
     entries: [usize; 256],

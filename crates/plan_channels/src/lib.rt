@@ -10,7 +10,7 @@ ghost use Rattle.plan_channels.specs.Lists.{ListedByNode};
 ghost use Rattle.plan_channels.specs.Stages.{Stage, NodeGiven};
 
 // Whether every kept one has a channel, or the one that finds none of 1 to k left (refusal 15).
-#[derive(Drop)]
+#[derive(Clone, Copy)]
 pub enum Given {
     All,
     NoneLeft(usize),

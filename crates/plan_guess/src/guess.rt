@@ -6,7 +6,7 @@ ghost use Rattle.std.specs.Prelude.{◌≤◌, ◌<◌, length};
 use crate::worth;
 
 // The greatest worth of a request at guessed prices, and the prices' ceiling; 0 for a worth that was not made, and for a ceiling that says nothing.
-#[derive(Drop)]
+#[derive(Clone, Copy)]
 pub struct Guess {
     pub top: usize,
     pub ceiling: usize,

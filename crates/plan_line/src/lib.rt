@@ -10,14 +10,14 @@ ghost use Rattle.plan_line.specs.Promise.{LineColumns, CanPlanLine, LinePlanned}
 use plan_channels::Given;
 
 // What planning a line comes to: what it earns and how many are kept, or the request for which no channel was left (refusal 15).
-#[derive(Drop)]
+#[derive(Clone, Copy)]
 pub enum Solved {
     Planned { earned: usize, number: usize },
     NoneLeft(usize),
 }
 
 // The answer, with an entry for each request and a price for each span. (An enum holds no array.)
-#[derive(Drop)]
+#[derive(Clone, Copy)]
 pub struct LinePlan {
     pub answer: Solved,
     pub entries: [usize; 256],

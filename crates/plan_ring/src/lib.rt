@@ -8,7 +8,7 @@ ghost use Rattle.plan_row.specs.Placing.{LowPrices};
 ghost use Rattle.plan_ring.specs.Promise.{RingColumns, CanPlanRing, RingPlanned};
 
 // The answer, the cut, and an entry for each request: those of the plan of the line which the cut leaves.
-#[derive(Drop)]
+#[derive(Clone, Copy)]
 pub struct RingPlan {
     pub answer: plan_line::Solved,
     pub cut: usize,

@@ -8,7 +8,7 @@ mod requests;
 mod spans;
 
 // What reading a book comes to.
-#[derive(Drop)]
+#[derive(Clone, Copy)]
 pub enum Answer {
     Accepted(Network),
     Refused(Refusal),
@@ -16,7 +16,7 @@ pub enum Answer {
 
 // The book as it was read: with the answer its limits and its requests, which count where the answer is `Accepted`. (An enum holds no
 // array, so they stand beside it.)
-#[derive(Drop)]
+#[derive(Clone, Copy)]
 pub struct Taken {
     pub answer: Answer,
     pub limits: [usize; 64],

@@ -7,7 +7,7 @@ use crate::Answer;
 use read_record::{Due, Network, Reading, Record, Refusal, Request, view};
 
 // The requests, of which the first `count` count where the answer is `Accepted`.
-#[derive(Drop)]
+#[derive(Clone, Copy)]
 pub struct Orders {
     pub answer: Answer,
     pub count: usize,

@@ -6,7 +6,7 @@ use crate::Answer;
 use read_record::{Due, Network, Reading, Record, Refusal, view};
 
 // The limits, one a span, which count where the answer is `Accepted`.
-#[derive(Drop)]
+#[derive(Clone, Copy)]
 pub struct Limits {
     pub answer: Answer,
     pub limits: [usize; 64],

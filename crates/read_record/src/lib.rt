@@ -10,27 +10,27 @@ pub mod shapes;
 pub mod view;
 
 // A refusal: its number in the table of document 01, and its place.
-#[derive(Drop)]
+#[derive(Clone, Copy)]
 pub struct Refusal {
     pub number: usize,
     pub place: usize,
 }
 
 // The fields of the three kinds of record.
-#[derive(Drop)]
+#[derive(Clone, Copy)]
 pub struct Network {
     pub shape: usize,
     pub nodes: usize,
     pub channels: usize,
 }
 
-#[derive(Drop)]
+#[derive(Clone, Copy)]
 pub struct Span {
     pub number: usize,
     pub limit: usize,
 }
 
-#[derive(Drop)]
+#[derive(Clone, Copy)]
 pub struct Request {
     pub number: usize,
     pub a: usize,
@@ -39,7 +39,7 @@ pub struct Request {
 }
 
 // A record is a network, a span or a request, and nothing else.
-#[derive(Drop)]
+#[derive(Clone, Copy)]
 pub enum Record {
     Network(Network),
     Span(Span),
@@ -47,14 +47,14 @@ pub enum Record {
 }
 
 // What reading one record comes to.
-#[derive(Drop)]
+#[derive(Clone, Copy)]
 pub enum Reading {
     Got(Record),
     Refused(Refusal),
 }
 
 // What is due at a record, with what it has to agree with; `before` records stand before the part that the requests are read from.
-#[derive(Drop)]
+#[derive(Clone, Copy)]
 pub enum Due {
     Network,
     Span { channels: usize },
@@ -62,7 +62,7 @@ pub enum Due {
 }
 
 // The first six bytes of a record, laid out alike in all three kinds: two bytes and two numbers of two bytes.
-#[derive(Drop)]
+#[derive(Clone, Copy)]
 struct Head {
     kind: usize,
     mark: usize,

@@ -5,7 +5,7 @@ ghost use Rattle.read_record.specs.Due.{MayStand, record_at};
 use crate::{Due, Reading};
 
 // `at` records of the slice have been read, so it is the index of the next one.
-#[derive(Drop)]
+#[derive(Clone, Copy)]
 pub struct View<'a> {
     pub src: &'a [u8],
     pub at: usize,

@@ -3,7 +3,7 @@ ghost use Rattle.work_columns.specs.Columned.{Columned, CanColumn};
 
 use read_record::Request;
 
-#[derive(Drop)]
+#[derive(Clone, Copy)]
 pub struct RequestColumns {
     pub a: [usize; 256],
     pub b: [usize; 256],
