@@ -1,6 +1,6 @@
 /* melyonva.h: planning and checking wavelength plans, for C and C++ programs.
  *
- * Link with libdesk.a (`rt staticlib desk` writes it; ./check builds it). The two functions below are proved, in Rattle, to answer as docs/DESK.md says
+ * Link with libdesk.a (./desk_library writes it; ./check builds it). The two functions below are proved, in Rattle, to answer as docs/DESK.md says
  * for every input: nothing is assumed of the bytes. They keep no state, allocate nothing, call nothing but the C library's memcpy and memset, and may be called
  * from several threads at once.
  *

@@ -4,5 +4,5 @@
 set -u
 cd "$(dirname "$0")/.." || exit 2
 mkdir -p target
-[ -n "${DESK_BUILT:-}" ] || rt staticlib desk >target/desk.log 2>&1 || { tail -n 20 target/desk.log; echo 'compare: the static library was not built'; exit 1; }
+[ -n "${DESK_BUILT:-}" ] || ./desk_library >target/desk.log 2>&1 || { tail -n 20 target/desk.log; echo 'compare: the static library was not built'; exit 1; }
 OUT=target/compare sh tests/compare/run.sh target/staticlib/libdesk.a --books "${BOOKS:-24000}" ${SEED:+--seed "$SEED"}

@@ -4,7 +4,7 @@
 set -u
 cd "$(dirname "$0")/.." || exit 2
 mkdir -p target
-[ -n "${DESK_BUILT:-}" ] || rt staticlib desk >target/desk.log 2>&1 || { tail -n 20 target/desk.log; echo 'hostile: the static library was not built'; exit 1; }
+[ -n "${DESK_BUILT:-}" ] || ./desk_library >target/desk.log 2>&1 || { tail -n 20 target/desk.log; echo 'hostile: the static library was not built'; exit 1; }
 work=$(mktemp -d) || exit 2
 trap 'rm -rf "$work"' EXIT
 cc -std=c11 -O2 -Wall -Wextra -Wpedantic -Werror -Iinclude tools/hostile.c target/staticlib/libdesk.a -o "$work/hostile" || exit 1

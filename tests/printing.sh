@@ -3,8 +3,8 @@
 # damaged, judged by an independent program with its own reading of 01 (tests/compare). BOOKS says how many (default 20000), SEED where they start.
 set -u
 cd "$(dirname "$0")/.." || exit 2
-light=$PWD/target/bin/page_program
-[ -x "$light" ] || { echo 'printing: target/bin/page_program is not there: run rt check page_program first'; exit 1; }
+light=$PWD/crates/page_program/out/page_program
+[ -x "$light" ] || { echo 'printing: crates/page_program/out/page_program is not there: ./plan or ./test builds it'; exit 1; }
 failed=0
 work=$(mktemp -d) || exit 2
 trap 'rm -rf "$work"' EXIT

@@ -1,4 +1,5 @@
-// The desk's boundary (document 01, "What the desk plans"): planner and checker for a C program, on bytes and numbers. docs/DESK.md has the packing.
+// The desk's boundary (document 01, "What the desk plans"): planner and checker on bytes and numbers, which the crate `desk_c` exports for a C program.
+// docs/DESK.md has the packing.
 mod pack;
 mod write;
 
@@ -12,8 +13,7 @@ use plan_book::Answer;
 
 // Plans the book. On success the entries are written, and on a line the prices, and the answer packs earnings, number kept and cut; on a refusal nothing
 // is written, and the answer packs its number and place.
-#[unsafe(no_mangle)]
-pub extern "C" fn melyonva_plan(book: &[u8], entries: &mut [u8], prices: &mut [u8]) -> u64
+pub fn melyonva_plan(book: &[u8], entries: &mut [u8], prices: &mut [u8]) -> u64
     ensures { PlanAnswer book.now entries.old prices.old result entries.new prices.new }
 {
     let made = plan_book::plan_book(book, entries.len() / 2, prices.len() / 4);
@@ -37,8 +37,7 @@ pub extern "C" fn melyonva_plan(book: &[u8], entries: &mut [u8], prices: &mut [u
 }
 
 // Checks a plan at prices. The answer is 1 for yes, 0 for no, or a packed refusal. It writes nothing.
-#[unsafe(no_mangle)]
-pub extern "C" fn melyonva_check(book: &[u8], entries: &[u8], prices: &[u8]) -> u64
+pub fn melyonva_check(book: &[u8], entries: &[u8], prices: &[u8]) -> u64
     ensures { result ≡ packed_verdict (checker book.now entries.now prices.now) }
 {
     let checked = check_plan::check_plan(book, entries, prices);
