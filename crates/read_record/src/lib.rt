@@ -1,5 +1,7 @@
 // One record of an order book (document 01, "Order book records" and "Refusals by number"): its fields are fetched and judged, and it is got or
 // refused by the row of the table that it breaks. It is named by its number in the slice that it is read from.
+#![tactic(auto)]
+
 ghost use Rattle.std.specs.Prelude.{◌≡◌, ◌+◌, ◌*◌, ◌≤◌, ◌<◌, length};
 ghost use Rattle.read_record.specs.Due.{MayStand, record_at};
 ghost use Rattle.read_record.specs.Records as R;
