@@ -1,0 +1,14 @@
+-- What the tests let through so far leads back. Assumes nothing.
+use mathlib.Core.Path.{◌≡◌}
+use Prim.Native.Nat.{◌-◌, ◌≤◌}
+use native.Mathlib.Omega.{arith}
+use Rattle.base_sums.specs.At.{at}
+use Rattle.base_sums.specs.Each.{of_yes}
+use Rattle.base_sums.specs.Permuted.{Back, back_none, back_more}
+use Rattle.plan_order.proofs.leads_back.Given as goal
+
+abbrev pub invariant-loop-i : goal.invariant-loop-i
+invariant-loop-i l = (l.i ≤ l.count) × Back l.i l.count (at l.order) (at l.place)
+
+abbrev pub decreases-loop-i : goal.decreases-loop-i
+decreases-loop-i l = l.count - l.i
