@@ -1,5 +1,7 @@
 // Reading any order book (document 01, "Order book records" and "Refusals by number"): every byte list is accepted or refused with a fixed
 // number and place. One pass, no copy of the file, nothing assumed of it.
+#![tactic(auto)]
+
 ghost use Rattle.read_book.specs.Says.{Reads, Unread};
 
 use read_record::{Due, Network, Reading, Record, Refusal, Request, shapes, view};
