@@ -1,16 +1,8 @@
 -- `read_book::requests::read_requests` meets its contract: every request passed was got and stands in the list, and since a request got is one of
 -- 256 there is room for it. Assumes nothing.
-use mathlib.Core.Path.{refl}
-use Prim.Native.Nat.{◌-◌, ◌≤◌, ◌<◌}
-use native.Mathlib.Omega.{arith}
-use borrow.Author.Rules.{rules}
-use lib.ListN.{replicate}
-use Rattle.base_sums.specs.Each.{of_yes}
-use Rattle.base_sums.specs.Vacant.{vacant_new}
-use Rattle.paper_book.specs.Refusals.{records}
-use Rattle.read_book.specs.Says.{no_request}
-use Rattle.read_book.specs.Series.{SoFar, no_other, so_far_none, stopped_here, all_read}
-use Rattle.read_book.specs.Orders.{request_series, got_request, request_within, request_more}
+use Prim.Native.Nat.{◌-◌, ◌≤◌}
+use Rattle.read_book.specs.Series.{SoFar}
+use Rattle.read_book.specs.Orders.{request_series}
 use Rattle.read_book.proofs.requests.read_requests.Given as goal
 
 abbrev pub invariant-loop-i : goal.invariant-loop-i

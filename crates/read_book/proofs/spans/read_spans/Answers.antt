@@ -1,6 +1,6 @@
 use mathlib.Core.Path.{◌∙◌}
 use lib.ListN.{replicate}
-use Prim.Native.Nat.{◌+◌, ◌-◌, ◌≤◌, ◌<◌}
+use Prim.Native.Nat.{◌-◌}
 use native.Mathlib.Omega.{arith}
 use Rattle.base_sums.specs.Vacant.{vacant_new}
 use Rattle.read_book.specs.Series.{so_far_none, stopped_here}
@@ -20,6 +20,8 @@ pub returns-in_default-got : goal.returns-in_default-got
 returns-in_default-got c = absurd (c.in_default-got.not-Span _ (got_span _ _ c.loop-at.at _ _ c.through_view-reading.ensures c.in-Got.is))
 
 pub loop-at-preserved : goal.loop-at-preserved
-loop-at-preserved c =
-    (omega arith, omega arith,
-    span_more _ _ _ _ _ c.through_view-reading.ensures c.in-Got.is _ _ c.loop-at.invariant.2 (omega arith) (omega arith) c.in-Span.is)
+loop-at-preserved c = (
+  omega arith,
+  omega arith,
+  span_more _ _ _ _ _ c.through_view-reading.ensures c.in-Got.is _ _ c.loop-at.invariant.2 (omega arith) (omega arith) c.in-Span.is,
+)

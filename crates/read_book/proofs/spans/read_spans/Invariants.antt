@@ -1,12 +1,7 @@
 -- `read_book::spans::read_spans` meets its contract: every span passed was got, and its limit stands in the list. Assumes nothing.
-use mathlib.Core.Path.{◌∙◌}
-use lib.ListN.{replicate}
 use Prim.Native.Nat.{◌+◌, ◌-◌, ◌≤◌, ◌<◌}
-use native.Mathlib.Omega.{arith}
-use borrow.Author.Rules.{rules}
-use Rattle.base_sums.specs.Vacant.{vacant_new}
-use Rattle.read_book.specs.Series.{SoFar, no_other, so_far_none, stopped_here, all_read}
-use Rattle.read_book.specs.Spans.{span_series, span_due_lem, got_span, span_more}
+use Rattle.read_book.specs.Series.{SoFar}
+use Rattle.read_book.specs.Spans.{span_series}
 use Rattle.read_book.proofs.spans.read_spans.Given as goal
 
 abbrev pub invariant-loop-at : goal.invariant-loop-at
