@@ -1,3 +1,2 @@
 pub mod Columned
 pub mod Seam
-pub mod Lending

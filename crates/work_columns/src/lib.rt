@@ -1,4 +1,6 @@
 // The accepted requests as columns of numbers: the seam between the reader and the planner and checker. The list of requests is lent.
+#![tactic(auto)]
+
 ghost use Rattle.work_columns.specs.Columned.{Columned, CanColumn};
 
 use read_record::Request;
