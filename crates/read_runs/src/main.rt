@@ -1,4 +1,6 @@
 // Runs the reader on a small book, on parts of it, and on it with one byte changed.
+#![tactic(auto)]
+
 ghost use Rattle.std.specs.Prelude.{◌≡◌};
 ghost use Rattle.paper_book.specs.Reading.{reading};
 ghost use Rattle.read_runs.specs.Told.{is_refused, is_done};
