@@ -1,5 +1,7 @@
 // Channels for a kept set on a row, by the rule of document 01 ("What the planner hands back"): by first cell, then by number, each takes the lowest
 // channel that no earlier one that shares a cell holds.
+#![tactic(auto)]
+
 ghost use Rattle.std.specs.Prelude.{◌≡◌, ℕ, ◌≤◌, ◌<◌, length};
 ghost use Rattle.base_sums.specs.At.{NumbersBelow};
 ghost use Rattle.base_sums.specs.Filled.{Filled};

@@ -1,11 +1,7 @@
 -- `plan_channels::begin_lists` meets its contract. The numbers from i on are in the lists (`ListedByNode` of specs/Lists): one that is not kept is passed over, any other
 -- comes in front of its node's list. Each turn leaves one number fewer. Assumes nothing.
-use mathlib.Core.Logic.{⊎_elim}
-use mathlib.Core.Path.{◌≡◌}
-use Prim.Native.Nat.{◌-◌, ◌≤◌, ◌<◌}
-use native.Mathlib.Omega.{arith}
-use Rattle.plan_channels.specs.HandOut.{at}
-use Rattle.plan_channels.specs.Lists.{ListedByNode, listed_pass, listed_more}
+use Prim.Native.Nat.{◌≤◌}
+use Rattle.plan_channels.specs.Lists.{ListedByNode}
 use Rattle.plan_channels.proofs.begin_lists.Given as goal
 
 abbrev pub invariant-loop-i : goal.invariant-loop-i

@@ -1,10 +1,9 @@
 -- `plan_channels::clear` meets its contract. The first j channels are 0 and the list is as long as it came: a store makes the next one 0 and leaves the others.
 -- Each turn leaves one fewer. Assumes nothing.
-use mathlib.Core.Path.{◌≡◌, refl, ◌∙◌}
+use mathlib.Core.Path.{◌≡◌}
 use Prim.Native.Nat.{◌-◌, ◌≤◌}
-use native.Mathlib.Omega.{arith}
-use lib.ListN.{length, length-set}
-use Rattle.base_sums.specs.Filled.{Filled, filled_none, filled_more}
+use lib.ListN.{length}
+use Rattle.base_sums.specs.Filled.{Filled}
 use Rattle.plan_channels.proofs.clear.Given as goal
 
 abbrev pub invariant-loop-j : goal.invariant-loop-j

@@ -1,10 +1,8 @@
-use mathlib.Core.Bool.{true}
-use mathlib.Core.Path.{◌≡◌, refl}
-use Prim.Native.Nat.{ℕ, ◌+◌, ◌-◌, ◌≤◌, ◌<◌}
+use Prim.Native.Nat.{◌+◌}
 use native.Mathlib.Omega.{arith}
-use Rattle.plan_channels.specs.HandOut.{at, flag}
+use Rattle.plan_channels.specs.HandOut.{at}
 use Rattle.plan_channels.specs.Lists.{Leads}
-use Rattle.plan_channels.specs.Stages.{Stage, stage_pass, stage_next}
+use Rattle.plan_channels.specs.Stages.{stage_pass}
 use Rattle.plan_channels.specs.Turns.{turn_enough, turn_gives}
 use Rattle.plan_channels.proofs.give_from.Goals as goal
 

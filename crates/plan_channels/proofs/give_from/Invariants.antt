@@ -1,13 +1,10 @@
 -- `plan_channels::give_from` meets its contract. It is the turn of number i at node v (`Stage` of specs/Stages), the next in the node's list: it gets the lowest
 -- free channel, of which one is always left, and those up to the next one are passed over. Numbers rise along the list. Assumes nothing.
 use mathlib.Core.Bool.{true}
-use mathlib.Core.Path.{◌≡◌, refl}
-use Prim.Native.Nat.{ℕ, ◌+◌, ◌-◌, ◌≤◌, ◌<◌}
-use native.Mathlib.Omega.{arith}
+use mathlib.Core.Path.{◌≡◌}
+use Prim.Native.Nat.{ℕ, ◌-◌, ◌≤◌, ◌<◌}
 use Rattle.plan_channels.specs.HandOut.{at, flag}
-use Rattle.plan_channels.specs.Lists.{Leads}
-use Rattle.plan_channels.specs.Stages.{Stage, stage_pass, stage_next}
-use Rattle.plan_channels.specs.Turns.{turn_enough, turn_gives}
+use Rattle.plan_channels.specs.Stages.{Stage}
 use Rattle.plan_channels.proofs.give_from.Given as goal
 
 abbrev pub invariant-loop-i : goal.invariant-loop-i

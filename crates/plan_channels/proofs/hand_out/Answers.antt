@@ -1,14 +1,17 @@
-use mathlib.Core.Path.{◌≡◌, ◌∙◌}
-use Prim.Native.Nat.{ℕ, ◌-◌, ◌≤◌}
+use mathlib.Core.Path.{◌≡◌}
+use Rattle.std.proofs.Common.{length}
 use native.Mathlib.Omega.{arith}
 use Rattle.plan_channels.specs.Lists.{can_list, listed_none}
-use Rattle.plan_channels.specs.Stages.{Stage, stage_start, stage_end}
+use Rattle.plan_channels.specs.Stages.{stage_start, stage_end}
 use Rattle.plan_channels.proofs.hand_out.Goals as goal
+
+pub begin_lists-requires : goal.begin_lists-requires
+begin_lists-requires c = record { numbers_below = can_list c.requires; listed_by_node = listed_none c.requires.count_upto }
 
 pub loop-v-init : goal.loop-v-init
 loop-v-init c =
-    let start = c in
-    (omega arith, stage_start start.requires (start.clear.auto.1.0 ∙ start.clear-arg-1.given.0.1) start.clear.ensures)
+    let long : length c.clear.new.channel ≡ 256 = omega (arith, c.clear.auto.channel, c.told-channel) in
+    (omega arith, stage_start c.requires long c.clear.ensures)
 
 pub returns : goal.returns
 returns c =

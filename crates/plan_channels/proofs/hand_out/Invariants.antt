@@ -1,10 +1,7 @@
 -- `plan_channels::hand_out` meets its contract. With every channel 0 it is the turn of node 0; each node's turn ends in the next one's (`NodeGiven` of specs/Stages),
 -- and past the last cell every kept one has its channel. That one finds none left is never the answer. Each turn leaves one node fewer. Assumes nothing.
-use mathlib.Core.Path.{◌≡◌, ◌∙◌}
-use Prim.Native.Nat.{ℕ, ◌-◌, ◌≤◌}
-use native.Mathlib.Omega.{arith}
-use Rattle.plan_channels.specs.Lists.{can_list, listed_none}
-use Rattle.plan_channels.specs.Stages.{Stage, stage_start, stage_end}
+use Prim.Native.Nat.{◌-◌, ◌≤◌}
+use Rattle.plan_channels.specs.Stages.{Stage}
 use Rattle.plan_channels.proofs.hand_out.Given as goal
 
 abbrev pub invariant-loop-v : goal.invariant-loop-v

@@ -1,12 +1,9 @@
-use mathlib.Core.Bool.{true}
-use mathlib.Core.Path.{◌≡◌, sym}
-use Prim.Native.Nat.{ℕ, ◌+◌, ◌-◌, ◌≤◌, ◌<◌}
+use mathlib.Core.Path.{sym}
+use Prim.Native.Nat.{◌≤◌}
 use native.Mathlib.Omega.{arith}
-use borrow.Author.Tests.{lt-ltb, le-ltb}
-use borrow.Author.Count.{below_more}
+use borrow.Author.Tests.{le-ltb}
 use Rattle.base_sums.specs.Lowest.{lowest_is}
 use Rattle.plan_channels.specs.HandOut.{at}
-use Rattle.plan_channels.specs.Latest.{held_past}
 use Rattle.plan_channels.proofs.lowest_past.Goals as goal
 
 pub returns-then-ends-c : goal.returns-then-ends-c

@@ -1,13 +1,8 @@
 -- `plan_channels::lowest_past` meets its contract. All channels from 1 up to c are held past the node; so where c is not, or is past k, it is the lowest free
 -- one (`lowest_is` of the crate sums). Each turn leaves one channel fewer. Assumes nothing.
 use mathlib.Core.Bool.{true}
-use mathlib.Core.Path.{◌≡◌, sym}
+use mathlib.Core.Path.{◌≡◌}
 use Prim.Native.Nat.{ℕ, ◌+◌, ◌-◌, ◌≤◌, ◌<◌}
-use native.Mathlib.Omega.{arith}
-use borrow.Author.Tests.{lt-ltb, le-ltb}
-use borrow.Author.Count.{below_more}
-use Rattle.base_sums.specs.Lowest.{lowest_is}
-use Rattle.plan_channels.specs.HandOut.{at}
 use Rattle.plan_channels.specs.Latest.{held_past}
 use Rattle.plan_channels.proofs.lowest_past.Given as goal
 

@@ -1,0 +1,15 @@
+-- `plan_turn::turn_ends` meets its contract: the first i ends are turned, and a store turns the next one. Assumes nothing.
+use mathlib.Core.Path.{◌≡◌, refl, ◌∙◌}
+use Prim.Native.Nat.{◌+◌, ◌-◌, ◌≤◌}
+use native.Mathlib.Omega.{arith}
+use lib.ListN.{length, length-set}
+use Rattle.base_sums.specs.Filled.{Filled, filled_none, filled_more}
+use Rattle.paper_book.specs.Columns.{at}
+use Rattle.paper_rules.specs.Cuts.{steps}
+use Rattle.plan_turn.proofs.turn_ends.Given as goal
+
+abbrev pub invariant-loop-i : goal.invariant-loop-i
+invariant-loop-i l = (l.i ≤ l.count) × (length l.turned ≡ 256) × (l.from ≡ l.j + 1) × Filled (λ k. steps l.n (l.j + 1) (at l.ends k)) l.i l.turned
+
+abbrev pub decreases-loop-i : goal.decreases-loop-i
+decreases-loop-i l = l.count - l.i
