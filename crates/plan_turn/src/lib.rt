@@ -1,4 +1,6 @@
 // A ring's columns as those of the line which a cut leaves: nodes and spans counted from the node after the cut span.
+#![tactic(auto)]
+
 ghost use Rattle.std.specs.Prelude.{◌≡◌, ◌+◌, ◌-◌, ◌≤◌, ◌<◌};
 ghost use Rattle.paper_rules.specs.Cuts as C;
 ghost use Rattle.base_sums.specs.Filled.{Filled};

@@ -1,5 +1,4 @@
 -- `plan_turn::span_at` meets its contract: each branch is one case of the definition. Assumes nothing.
-use borrow.Author.Rules.{rules}
 use native.Mathlib.Omega.{arith}
 use Rattle.law_ring.specs.Turn.{span_round, span_ahead}
 use Rattle.plan_turn.proofs.span_at.Goals as goal

@@ -1,5 +1,4 @@
 -- `plan_turn::steps` meets its contract: each branch is one case of the definition. Assumes nothing.
-use borrow.Author.Rules.{rules}
 use native.Mathlib.Omega.{arith}
 use Rattle.law_ring.specs.Turn.{steps_ahead, steps_round}
 use Rattle.plan_turn.proofs.steps.Goals as goal

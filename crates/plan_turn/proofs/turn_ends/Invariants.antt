@@ -1,9 +1,8 @@
 -- `plan_turn::turn_ends` meets its contract: the first i ends are turned, and a store turns the next one. Assumes nothing.
-use mathlib.Core.Path.{◌≡◌, refl, ◌∙◌}
+use mathlib.Core.Path.{◌≡◌}
 use Prim.Native.Nat.{◌+◌, ◌-◌, ◌≤◌}
-use native.Mathlib.Omega.{arith}
-use lib.ListN.{length, length-set}
-use Rattle.base_sums.specs.Filled.{Filled, filled_none, filled_more}
+use lib.ListN.{length}
+use Rattle.base_sums.specs.Filled.{Filled}
 use Rattle.paper_book.specs.Columns.{at}
 use Rattle.paper_rules.specs.Cuts.{steps}
 use Rattle.plan_turn.proofs.turn_ends.Given as goal

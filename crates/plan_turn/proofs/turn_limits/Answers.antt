@@ -1,23 +1,10 @@
-use mathlib.Core.Path.{◌≡◌, refl, ap, ◌∙◌}
-use Prim.Native.Nat.{◌-◌, ◌≤◌, ◌<◌}
 use native.Mathlib.Omega.{arith}
-use lib.ListN.{length, length-set}
-use Rattle.base_sums.specs.Filled.{Filled, filled_none, filled_more}
-use Rattle.paper_book.specs.Columns.{at}
-use Rattle.paper_rules.specs.Cuts.{span_at}
 use Rattle.law_ring.specs.Turn.{span_below}
 use Rattle.plan_turn.proofs.turn_limits.Goals as goal
 
+-- the span at a place of the line is a span of the ring
 pub offset_bounds-limits-span_at : goal.offset_bounds-limits-span_at
-offset_bounds-limits-span_at c =
-    let inside : c.span_at.result < 64 = let p = c in
-    let l = c.loop-t in
-    omega (arith, c.span_at.ensures, span_below p.args.n p.args.j p.requires.0 l.t (omega arith)) in
-    omega (arith, inside)
+offset_bounds-limits-span_at c = omega (arith, c.span_at.ensures, span_below c.args.n c.args.j c.requires.0 c.loop-t.t (omega arith))
 
 pub bounds-limits-span_at : goal.bounds-limits-span_at
-bounds-limits-span_at c =
-    let inside : c.span_at.result < 64 = let p = c in
-    let l = c.loop-t in
-    omega (arith, c.span_at.ensures, span_below p.args.n p.args.j p.requires.0 l.t (omega arith)) in
-    omega (arith, inside)
+bounds-limits-span_at c = omega (arith, c.span_at.ensures, span_below c.args.n c.args.j c.requires.0 c.loop-t.t (omega arith))

@@ -1,12 +1,10 @@
 -- `plan_turn::turn_limits` meets its contract: the first t limits stand in the line's order, and a store puts the next one. Assumes nothing.
-use mathlib.Core.Path.{◌≡◌, refl, ap, ◌∙◌}
-use Prim.Native.Nat.{◌-◌, ◌≤◌, ◌<◌}
-use native.Mathlib.Omega.{arith}
-use lib.ListN.{length, length-set}
-use Rattle.base_sums.specs.Filled.{Filled, filled_none, filled_more}
+use mathlib.Core.Path.{◌≡◌}
+use Prim.Native.Nat.{◌-◌, ◌≤◌}
+use lib.ListN.{length}
+use Rattle.base_sums.specs.Filled.{Filled}
 use Rattle.paper_book.specs.Columns.{at}
 use Rattle.paper_rules.specs.Cuts.{span_at}
-use Rattle.law_ring.specs.Turn.{span_below}
 use Rattle.plan_turn.proofs.turn_limits.Given as goal
 
 abbrev pub invariant-loop-t : goal.invariant-loop-t
