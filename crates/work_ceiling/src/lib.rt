@@ -1,5 +1,7 @@
 // The ceiling of a price list on a line (document 01, "Prices and the checker"), by columns of numbers. No ceiling passes
 // 63 × 96 × 1,000,000 for the spans and 256 × 1,000,000 for the requests, together 6,304,000,000.
+#![tactic(auto)]
+
 ghost use Rattle.std.specs.Prelude.{◌≡◌, ◌-◌, ◌≤◌, ◌<◌, min, max};
 ghost use Rattle.base_sums.specs.Sums.{Σ};
 ghost use Rattle.paper_book.specs.Columns.{at};
