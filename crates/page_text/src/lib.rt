@@ -1,5 +1,7 @@
 // Text into a lent buffer. Each function writes from a place on, answers the place after what it wrote, and leaves the rest of the buffer as it was. The caller
 // sees that there is room.
+#![tactic(auto)]
+
 ghost use Rattle.std.specs.Prelude.{[], ◌∷◌, ◌++◌, ◌+◌, ◌≤◌, ◌<◌, length};
 ghost use Rattle.page_text.specs.Decimal.{decimal};
 ghost use Rattle.page_text.specs.Put.{Put};

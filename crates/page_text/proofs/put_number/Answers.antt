@@ -1,5 +1,4 @@
 -- `page_text::put_number` meets its contract: the number, and then the byte. Assumes nothing.
-use borrow.Author.Rules.{rules}
 use Rattle.page_text.specs.Put.{put_on}
 use Rattle.page_text.proofs.put_number.Goals as goal
 

@@ -1,9 +1,8 @@
 -- `page_text::put_word` meets its contract. The loop's invariant: the first `i` bytes of the word are put, and one more byte makes it `i + 1`.
 -- What is left of the word falls. Assumes nothing.
 use Prim.Native.Nat.{◌+◌, ◌-◌, ◌≤◌}
-use native.Mathlib.Omega.{arith}
 use lib.ListN.{length, take}
-use Rattle.page_text.specs.Put.{Put, put_none, put_next, put_whole}
+use Rattle.page_text.specs.Put.{Put}
 use Rattle.page_text.proofs.put_word.Given as goal
 
 abbrev pub invariant-loop-i : goal.invariant-loop-i
