@@ -1,5 +1,7 @@
 // The text of the printing program (document 01, "Books and figures"), written at the front of a lent buffer: the one line of a refusal, or a plan's first line
 // and a line for each request. Each answers the length of the text, and leaves the buffer past it as it was.
+#![tactic(auto)]
+
 mod parts;
 
 ghost use Rattle.page_plan.specs.Promise.{PrintsRefusal, Printable, PrintsPlan};

@@ -1,0 +1,14 @@
+use native.Mathlib.Omega.{arith}
+use Rattle.page_plan.specs.Parts.{printing_none, request_room, printing_more}
+use Rattle.page_plan.proofs.parts.put_requests.Goals as goal
+
+pub loop-i-init : goal.loop-i-init
+loop-i-init c = (omega arith, printing_none _ _ _ _ _)
+
+pub put_request-place-requires : goal.put_request-place-requires
+put_request-place-requires c =
+    request_room c.requires.printable c.loop-i-test.true c.loop-i.invariant.1 c.requires.lines_room_in_bounds
+
+pub loop-i-preserved : goal.loop-i-preserved
+loop-i-preserved c =
+    (omega arith, printing_more c.requires.printable c.loop-i-test.true c.loop-i.invariant.1 c.put_request-place.ensures)

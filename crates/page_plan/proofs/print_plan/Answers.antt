@@ -1,0 +1,16 @@
+-- `page_plan::print_plan` meets its contract: the first line, and then the requests' lines. The first ends at 83 at most, since a number of 64 bits has
+-- 20 digits at most, and so there is room for the rest. Assumes nothing.
+use native.Mathlib.Omega.{arith}
+use Rattle.page_text.specs.Decimal.{short_64}
+use Rattle.page_plan.specs.Room.{first_ends}
+use Rattle.page_plan.specs.Parts.{plan_put}
+use Rattle.page_plan.proofs.print_plan.Goals as goal
+
+pub put_first-next-requires : goal.put_first-next-requires
+put_first-next-requires c = omega (arith, short_64)
+
+pub put_requests-requires-clause-lines_room_in_bounds : goal.put_requests-requires-clause-lines_room_in_bounds
+put_requests-requires-clause-lines_room_in_bounds c = omega (arith, short_64, first_ends)
+
+pub returns : goal.returns
+returns c = plan_put c.put_first-next.ensures c.put_requests.ensures (omega (arith, short_64, first_ends))
