@@ -1,2 +1,3 @@
 pub mod Columned
+pub mod Lending
 pub mod Seam
