@@ -1,0 +1,16 @@
+use mathlib.Core.Path.{◌≡◌, refl, sym, ◌∙◌}
+use Prim.Native.Nat.{◌-◌, ◌≤◌}
+use native.Mathlib.Omega.{arith}
+use borrow.Author.Tests.{not-true, not-false}
+use Rattle.base_sums.specs.Each.{of_yes}
+use Rattle.plan_channels.specs.Lists.{listed_none}
+use Rattle.check_rules.specs.Spans.{begin_below}
+use Rattle.check_rules.specs.Sweep.{Swept, swept_start, swept_all, clash_not_apart}
+use Rattle.check_rules.proofs.sweep.channels_apart.Goals as goal
+
+pub begin_lists-requires : goal.begin_lists-requires
+begin_lists-requires c =
+    let can = c.requires.1 in record { numbers_below = begin_below 128 (omega arith) can.laid; listed_by_node = listed_none can.laid.in_line.few }
+
+pub loop-v-init : goal.loop-v-init
+loop-v-init c = (omega arith, swept_start c.requires.1)

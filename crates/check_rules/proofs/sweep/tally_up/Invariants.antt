@@ -1,0 +1,13 @@
+-- `check_rules::sweep::tally_up` meets its contract: each turn counts one node more. Assumes nothing.
+use mathlib.Core.Path.{◌≡◌}
+use Prim.Native.Nat.{◌-◌, ◌≤◌, ◌<◌}
+use native.Mathlib.Omega.{arith}
+use Rattle.paper_book.specs.Columns.{at}
+use Rattle.check_rules.specs.Loads.{Tallied, tally_upto, tallied_more}
+use Rattle.check_rules.proofs.sweep.tally_up.Given as goal
+
+abbrev pub invariant-loop-i : goal.invariant-loop-i
+invariant-loop-i l = (l.i ≤ l.count) × Tallied l.i l.nodes l.tally
+
+abbrev pub decreases-loop-i : goal.decreases-loop-i
+decreases-loop-i l = l.count - l.i
