@@ -1,4 +1,6 @@
 // What several crates do with a list of numbers: fill it, copy it, and use up room along it.
+#![tactic(auto)]
+
 ghost use Rattle.std.specs.Prelude.{◌≡◌, true, ℕ, ◌+◌, ◌≤◌, ◌<◌, length};
 ghost use Rattle.base_sums.specs.At.{at};
 ghost use Rattle.base_sums.specs.Between.{between};

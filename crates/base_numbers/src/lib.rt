@@ -1,4 +1,6 @@
 // What several crates do with two numbers.
+#![tactic(auto)]
+
 ghost use Rattle.std.specs.Prelude.{◌≡◌, ◌-◌, min, max};
 
 pub fn lower(x: usize, y: usize) -> usize

@@ -1,1 +1,3 @@
+#![tactic(auto)]
+
 // No code: what is true of rows of cells, in specs/.

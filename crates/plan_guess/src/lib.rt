@@ -1,5 +1,7 @@
 // An order in which requests are likely to be inserted quickly: by worth, the greatest first, or at guessed prices. It serves speed only: nothing is promised of it
 // but safety, and crate `plan_order` tests it.
+#![tactic(auto)]
+
 ghost use Rattle.std.specs.Prelude.{◌≤◌};
 
 mod buckets;

@@ -1,9 +1,8 @@
 -- Each turn fills one place with its own number. Assumes nothing.
-use mathlib.Core.Path.{◌≡◌, refl}
+use mathlib.Core.Path.{◌≡◌}
 use Prim.Native.Nat.{◌-◌, ◌≤◌}
-use native.Mathlib.Omega.{arith}
-use lib.ListN.{length, length-set}
-use Rattle.base_sums.specs.Filled.{Filled, filled_none, filled_more}
+use lib.ListN.{length}
+use Rattle.base_sums.specs.Filled.{Filled}
 use Rattle.base_lists.proofs.by_number.Given as goal
 
 abbrev pub invariant-loop-i : goal.invariant-loop-i

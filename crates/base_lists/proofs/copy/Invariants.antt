@@ -1,10 +1,9 @@
 -- Each turn fills one place. Assumes nothing.
-use mathlib.Core.Path.{◌≡◌, refl}
+use mathlib.Core.Path.{◌≡◌}
 use Prim.Native.Nat.{◌-◌, ◌≤◌}
-use native.Mathlib.Omega.{arith}
-use lib.ListN.{length, length-set}
+use lib.ListN.{length}
 use Rattle.base_sums.specs.At.{at}
-use Rattle.base_sums.specs.Filled.{Filled, filled_none, filled_more}
+use Rattle.base_sums.specs.Filled.{Filled}
 use Rattle.base_lists.proofs.copy.Given as goal
 
 abbrev pub invariant-loop-i : goal.invariant-loop-i

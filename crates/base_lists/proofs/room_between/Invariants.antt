@@ -1,8 +1,6 @@
 -- The loop's invariant: every place from a up to j has room. The measure is what is left up to b. Assumes nothing.
 use Prim.Native.Nat.{◌-◌}
-use native.Mathlib.Omega.{arith}
-use Rattle.base_sums.specs.Each.{of_yes}
-use Rattle.base_lists.specs.Room.{RoomTo, room_none, room_next}
+use Rattle.base_lists.specs.Room.{RoomTo}
 use Rattle.base_lists.proofs.room_between.Given as goal
 
 abbrev pub invariant-loop-j : goal.invariant-loop-j

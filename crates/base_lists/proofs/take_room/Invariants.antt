@@ -1,9 +1,8 @@
 -- The loop's invariant: one of room is taken on every place from a up to j. The measure is what is left up to b. Assumes nothing.
 use mathlib.Core.Path.{◌≡◌}
 use Prim.Native.Nat.{◌-◌}
-use native.Mathlib.Omega.{arith}
-use lib.ListN.{length, length-set}
-use Rattle.base_lists.specs.Room.{TakenTo, taken_none, taken_room, taken_next, taken_all}
+use lib.ListN.{length}
+use Rattle.base_lists.specs.Room.{TakenTo}
 use Rattle.base_lists.proofs.take_room.Given as goal
 
 abbrev pub invariant-loop-j : goal.invariant-loop-j

@@ -1,10 +1,7 @@
 -- What the tests let through so far leads back. Assumes nothing.
-use mathlib.Core.Path.{◌≡◌}
 use Prim.Native.Nat.{◌-◌, ◌≤◌}
-use native.Mathlib.Omega.{arith}
 use Rattle.base_sums.specs.At.{at}
-use Rattle.base_sums.specs.Each.{of_yes}
-use Rattle.base_sums.specs.Permuted.{Back, back_none, back_more}
+use Rattle.base_sums.specs.Permuted.{Back}
 use Rattle.plan_order.proofs.leads_back.Given as goal
 
 abbrev pub invariant-loop-i : goal.invariant-loop-i

@@ -1,7 +1,5 @@
 -- Only that it is safe is asked: each index is below the bound, or tested. Assumes nothing.
 use Prim.Native.Nat.{◌-◌, ◌≤◌}
-use native.Mathlib.Omega.{arith}
-use borrow.Author.Rules.{rules}
 use Rattle.plan_guess.proofs.guess.rate_all.Given as goal
 
 abbrev pub invariant-loop-j : goal.invariant-loop-j
