@@ -1,0 +1,22 @@
+-- `check_plan::check_plan` meets its contract: the reader's refusal is the checker's, and an accepted book is checked with its requests lent. Assumes
+-- nothing.
+use borrow.Author.Rules.{rules}
+use Rattle.read_book.specs.Accepted.{refused_read}
+use Rattle.work_columns.specs.Seam.{accepted}
+use Rattle.check_plan.specs.Checked.{checked_of}
+use Rattle.check_plan.specs.WaysOut.{book_refused, book_accepted}
+use Rattle.check_plan.proofs.check_plan.Goals as goal
+
+pub returns-in-Refused : goal.returns-in-Refused
+unfolding checked_of
+returns-in-Refused c = book_refused _ _ _ (refused_read c.read_book-taken.ensures c.in-Refused.is)
+
+pub check_accepted-requires : goal.check_accepted-requires
+check_accepted-requires c =
+    let told = c in
+    (accepted told.read_book-taken.ensures c.in-Accepted.is).0
+
+pub returns : goal.returns
+returns c =
+    let told = c in
+    book_accepted _ _ _ (accepted told.read_book-taken.ensures c.in-Accepted.is).1 c.check_accepted.ensures

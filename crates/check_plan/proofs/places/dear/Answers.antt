@@ -1,0 +1,20 @@
+use mathlib.Core.Path.{◌≡◌, sym}
+use mathlib.Core.Bool.{false}
+use Prim.Native.Nat.{ℕ, ◌-◌, ◌≤◌, ◌<◌}
+use native.Mathlib.Omega.{arith}
+use borrow.Author.Count.{below_more}
+use borrow.Author.Tests.{lt-ltb, le-ltb}
+use lib.Dec.{ltb}
+use Rattle.base_sums.specs.Each.{first_here}
+use Rattle.paper_book.specs.Bytes.{price_in}
+use Rattle.check_plan.proofs.places.dear.Goals as goal
+
+pub returns-then-price_at-gt1000000 : goal.returns-then-price_at-gt1000000
+returns-then-price_at-gt1000000 c =
+    let l = c.loop-s in
+    sym (first_here _ _ l.s (omega arith) l.invariant.1 (λ h. lt-ltb _ _ (rw c.price_at.ensures at c.if-price_at-gt1000000.true)))
+
+pub returns : goal.returns
+returns c =
+    let l = c.loop-s in
+    sym (first_here _ _ l.s (omega arith) l.invariant.1 (λ h. absurd (omega arith)))

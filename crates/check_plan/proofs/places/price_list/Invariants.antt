@@ -1,0 +1,14 @@
+-- `check_plan::places::price_list` meets its contract: each turn puts one price in its place. Assumes nothing.
+use mathlib.Core.Path.{◌≡◌, ◌∙◌}
+use Prim.Native.Nat.{◌-◌, ◌≤◌}
+use native.Mathlib.Omega.{arith}
+use lib.ListN.{length, length-set}
+use Rattle.base_sums.specs.Filled.{Filled, filled_none, filled_more}
+use Rattle.paper_book.specs.Bytes.{price_in}
+use Rattle.check_plan.proofs.places.price_list.Given as goal
+
+abbrev pub invariant-loop-s : goal.invariant-loop-s
+invariant-loop-s l = (l.s ≤ l.spans) × (length l.list ≡ 64) × Filled (price_in l.prices) l.s l.list
+
+abbrev pub decreases-loop-s : goal.decreases-loop-s
+decreases-loop-s l = l.spans - l.s

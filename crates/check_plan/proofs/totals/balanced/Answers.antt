@@ -1,0 +1,16 @@
+-- `check_plan::totals::balanced` meets its contract: its two numbers are the book's earnings and the ceiling of its prices. Assumes nothing.
+use native.Mathlib.Omega.{arith}
+use Rattle.law_line.specs.HeldLine.{few_spans}
+use Rattle.check_plan.specs.Balance.{can_earn, priced_line, same_balance}
+use Rattle.check_plan.proofs.totals.balanced.Goals as goal
+
+pub price_list-requires : goal.price_list-requires
+price_list-requires c =
+    let w = c.requires in
+    omega (arith, few_spans w.held, w.prices_enough)
+
+pub returns : goal.returns
+unfolding priced_line
+returns c w =
+    let listed = c.price_list.ensures in
+    same_balance w listed c.earned.ensures (c.ceiling_of-top.ensures (priced_line w listed))
