@@ -1,7 +1,10 @@
 use Rattle.std.proofs.Common.{arith}
 use Rattle.base_sums.specs.Vacant.{vacant_new}
-use Rattle.work_columns.specs.Columned.{columned_none}
+use Rattle.work_columns.proofs.Columned.{columned_none, columned_more}
 use Rattle.work_columns.proofs.columns.Goals as goal
 
 pub loop-i-init : goal.loop-i-init
 loop-i-init c = (omega arith, columned_none _ (vacant_new 0 0 256))
+
+pub loop-i-preserved : goal.loop-i-preserved
+loop-i-preserved c = (omega arith, columned_more _ c.loop-i.invariant.1 (omega arith))

@@ -1,0 +1,2 @@
+pub mod Columned
+pub mod Seam
