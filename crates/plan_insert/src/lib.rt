@@ -1,5 +1,7 @@
 // The best set on a row of cells, with its prices: candidates are inserted one at a time into a flow with signed costs. A candidate costs
 // minus its profit, an idle cell 0; a node's distance is never above 0, and no arc of the residual network can lower one any more.
+#![tactic(auto)]
+
 mod arcs;
 mod chains;
 mod insert;
