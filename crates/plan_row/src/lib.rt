@@ -1,4 +1,6 @@
 // A line's columns as a row, and the prices of its cells.
+#![tactic(auto)]
+
 ghost use Rattle.std.specs.Prelude.{◌≡◌, ◌-◌, min};
 ghost use Rattle.base_sums.specs.At.{NumbersBelow, NumbersUpto};
 ghost use Rattle.base_signed.specs.Parts.{dn};
