@@ -1,22 +1,33 @@
 -- `insert` meets its contract. The calls ask no more than what stands before the insertion, with the candidate's own gain; each of the four
 -- ways out is one law of `Inserting`, at the arrays as they are there. Assumes nothing.
-use Rattle.std.proofs.Common.{rules, arith, ◌≡◌, ◌≤◌, ◌<◌, length, get_or, pos, w64, SFits}
-use Rattle.plan_insert.specs.State.{at}
+use Rattle.std.proofs.Common.{arith, ◌≡◌, ◌+◌, ◌-◌, ◌≤◌, ◌<◌, ℕ, ℤ, Bool, List, length, get_or, pos}
+use Rattle.base_signed.specs.Bits.{rd, within}
+use Rattle.base_signed.specs.Parts.{dn}
+use Rattle.plan_insert.specs.State.{at, lowest, Links, CanInsert}
 use Rattle.plan_insert.specs.Flags.{entered_kept, entered_dropped}
-use Rattle.plan_insert.specs.Inserting.{gain_in, first_inside, inside, gain_read, gain_upto, kept_at_once, dropped_unasked, dropped_after, walkable, kept_by_walk, chains_walked}
+use Rattle.plan_insert.specs.Inserting.{gain_in, first_inside, inside, ready, gain_read, gain_upto, kept_at_once, dropped_unasked, dropped_after, walkable, kept_by_walk, chains_walked}
 use Rattle.plan_insert.proofs.insert.insert.Goals as goal
+
+-- what the candidate gains, in depths: the numbers that it is made of fit
+gain_is :
+    {cells t : ℕ} {lo hi : List ℕ} {cost : List ℤ} {kept : List Bool} {room : List ℕ} {dist : List ℤ} {ls : Links} (w : CanInsert cells t lo hi cost kept room dist ls) →
+    {gain : ℕ} → gain ≡ dn (rd (get_or dist (at lo t) (pos 0))) + dn (rd (get_or cost t (pos 0))) - dn (rd (get_or dist (at hi t) (pos 0))) → gain ≡ gain_in t lo hi cost dist
+gain_is {cells} {t} {lo} {hi} w is =
+    let d = (ready w).dists in
+    gain_read w
+    (within _ 1000000 (omega arith) (omega (arith, w.costs.not_above t (omega arith), w.costs.upto t (omega arith))))
+    (within _ lowest (omega arith) (omega (arith, d.not_above (at lo t) (omega (arith, first_inside w)), d.upto (at lo t) (omega (arith, first_inside w)))))
+    (within _ lowest (omega arith) (omega (arith, d.not_above (at hi t) (omega (arith, inside w)), d.upto (at hi t) (omega (arith, inside w)))))
+    is
 
 -- ---- it gains nothing: dropped
 
 pub returns-then-gain-eq0-clause-standing : goal.returns-then-gain-eq0-clause-standing
 returns-then-gain-eq0-clause-standing c w =
     let long : length c.args.kept.now ≡ 256 = omega arith in
-    let fc : SFits w64 (get_or c.args.cost.now c.args.t (pos 0)) = search rules in
-    let fn : SFits w64 (get_or c.args.dist.now (at c.args.lo.now c.args.t) (pos 0)) = search rules in
-    let ff : SFits w64 (get_or c.args.dist.now (at c.args.hi.now c.args.t) (pos 0)) = search rules in
-    let gain_is : c.gain_of-gain.result ≡ gain_in c.args.t c.args.lo.now c.args.hi.now c.args.cost.now c.args.dist.now = gain_read c.requires fc fn ff c.gain_of-gain.ensures in
+    let is = gain_is c.requires c.gain_of-gain.ensures in
     let e = c.enter.ensures in
-    rw e.kept_after (dropped_unasked w long (omega (arith, gain_is, c.if-gain-eq0.true)))
+    rw e.kept_after (dropped_unasked w long (omega (arith, is, c.if-gain-eq0.true)))
 
 pub returns-then-gain-eq0-clause-chains : goal.returns-then-gain-eq0-clause-chains
 returns-then-gain-eq0-clause-chains c =
@@ -44,81 +55,56 @@ returns-then-room_between-clause-chains c =
 
 pub search-requires-clause-a_le_cells : goal.search-requires-clause-a_le_cells
 search-requires-clause-a_le_cells c =
-    let fc : SFits w64 (get_or c.args.cost.now c.args.t (pos 0)) = search rules in
-    let fn : SFits w64 (get_or c.args.dist.now (at c.args.lo.now c.args.t) (pos 0)) = search rules in
-    let ff : SFits w64 (get_or c.args.dist.now (at c.args.hi.now c.args.t) (pos 0)) = search rules in
-    let gain_is : c.gain_of-gain.result ≡ gain_in c.args.t c.args.lo.now c.args.hi.now c.args.cost.now c.args.dist.now = gain_read c.requires fc fn ff c.gain_of-gain.ensures in
-    let gain_small : c.gain_of-gain.result ≤ 1000000 = omega (arith, gain_is, gain_upto c.requires) in
-    (first_inside c.requires, inside c.requires, omega (arith, c.if-gain-eq0.false), gain_small)
+    let is = gain_is c.requires c.gain_of-gain.ensures in
+    let small : c.gain_of-gain.result ≤ 1000000 = omega (arith, is, gain_upto c.requires) in
+    (first_inside c.requires, inside c.requires, omega (arith, c.if-gain-eq0.false), small)
 
 pub deepen-requires-clause-cells_bound : goal.deepen-requires-clause-cells_bound
 deepen-requires-clause-cells_bound c =
-    let fc : SFits w64 (get_or c.args.cost.now c.args.t (pos 0)) = search rules in
-    let fn : SFits w64 (get_or c.args.dist.now (at c.args.lo.now c.args.t) (pos 0)) = search rules in
-    let ff : SFits w64 (get_or c.args.dist.now (at c.args.hi.now c.args.t) (pos 0)) = search rules in
-    let gain_is : c.gain_of-gain.result ≡ gain_in c.args.t c.args.lo.now c.args.hi.now c.args.cost.now c.args.dist.now = gain_read c.requires fc fn ff c.gain_of-gain.ensures in
-    let gain_small : c.gain_of-gain.result ≤ 1000000 = omega (arith, gain_is, gain_upto c.requires) in
-    (c.requires.cells_upto, omega (arith, (c.search.ensures.reached c.if-search.true).shorter, gain_small))
+    let is = gain_is c.requires c.gain_of-gain.ensures in
+    let small : c.gain_of-gain.result ≤ 1000000 = omega (arith, is, gain_upto c.requires) in
+    (c.requires.cells_upto, omega (arith, (c.search.ensures.reached c.if-search.true).shorter, small))
 
 pub walk_back-requires : goal.walk_back-requires
 walk_back-requires c =
     let long : length c.args.kept.now ≡ 256 = omega arith in
-    let fc : SFits w64 (get_or c.args.cost.now c.args.t (pos 0)) = search rules in
-    let fn : SFits w64 (get_or c.args.dist.now (at c.args.lo.now c.args.t) (pos 0)) = search rules in
-    let ff : SFits w64 (get_or c.args.dist.now (at c.args.hi.now c.args.t) (pos 0)) = search rules in
-    let gain_is : c.gain_of-gain.result ≡ gain_in c.args.t c.args.lo.now c.args.hi.now c.args.cost.now c.args.dist.now = gain_read c.requires fc fn ff c.gain_of-gain.ensures in
-    let gain_some : c.gain_of-gain.result ≡ 0 → ⊥ = c.if-gain-eq0.false in
+    let is = gain_is c.requires c.gain_of-gain.ensures in
     let in_flags : c.args.t < length c.args.kept.now = omega (arith, long, c.requires.t_upto) in
     let e = c.enter-then-search.ensures in
-    walkable c.requires long gain_is gain_some c.search.ensures c.if-search.true e.kept_after (entered_kept in_flags c.requires.chains e.kept_after e.chained_2)
+    walkable c.requires long is c.if-gain-eq0.false c.search.ensures c.if-search.true e.kept_after (entered_kept in_flags c.requires.chains e.kept_after e.chained_2)
 
 pub returns-then-search-clause-standing : goal.returns-then-search-clause-standing
 returns-then-search-clause-standing c w =
     let long : length c.args.kept.now ≡ 256 = omega arith in
-    let fc : SFits w64 (get_or c.args.cost.now c.args.t (pos 0)) = search rules in
-    let fn : SFits w64 (get_or c.args.dist.now (at c.args.lo.now c.args.t) (pos 0)) = search rules in
-    let ff : SFits w64 (get_or c.args.dist.now (at c.args.hi.now c.args.t) (pos 0)) = search rules in
-    let gain_is : c.gain_of-gain.result ≡ gain_in c.args.t c.args.lo.now c.args.hi.now c.args.cost.now c.args.dist.now = gain_read c.requires fc fn ff c.gain_of-gain.ensures in
-    let gain_some : c.gain_of-gain.result ≡ 0 → ⊥ = c.if-gain-eq0.false in
+    let is = gain_is c.requires c.gain_of-gain.ensures in
     let in_flags : c.args.t < length c.args.kept.now = omega (arith, long, c.requires.t_upto) in
     let e = c.enter-then-search.ensures in
     let chained = entered_kept in_flags c.requires.chains e.kept_after e.chained_2 in
-    kept_by_walk w long gain_is gain_some c.search.ensures c.if-search.true e.kept_after chained c.deepen.ensures c.walk_back.ensures.balanced
+    kept_by_walk w long is c.if-gain-eq0.false c.search.ensures c.if-search.true e.kept_after chained c.deepen.ensures c.walk_back.ensures.balanced
 
 pub returns-then-search-clause-chains : goal.returns-then-search-clause-chains
 returns-then-search-clause-chains c =
     let long : length c.args.kept.now ≡ 256 = omega arith in
-    let fc : SFits w64 (get_or c.args.cost.now c.args.t (pos 0)) = search rules in
-    let fn : SFits w64 (get_or c.args.dist.now (at c.args.lo.now c.args.t) (pos 0)) = search rules in
-    let ff : SFits w64 (get_or c.args.dist.now (at c.args.hi.now c.args.t) (pos 0)) = search rules in
-    let gain_is : c.gain_of-gain.result ≡ gain_in c.args.t c.args.lo.now c.args.hi.now c.args.cost.now c.args.dist.now = gain_read c.requires fc fn ff c.gain_of-gain.ensures in
-    let gain_some : c.gain_of-gain.result ≡ 0 → ⊥ = c.if-gain-eq0.false in
+    let is = gain_is c.requires c.gain_of-gain.ensures in
     let in_flags : c.args.t < length c.args.kept.now = omega (arith, long, c.requires.t_upto) in
     let e = c.enter-then-search.ensures in
     let chained = entered_kept in_flags c.requires.chains e.kept_after e.chained_2 in
-    chains_walked c.requires long gain_is gain_some c.search.ensures c.if-search.true e.kept_after chained c.walk_back.ensures.chains
+    chains_walked c.requires long is c.if-gain-eq0.false c.search.ensures c.if-search.true e.kept_after chained c.walk_back.ensures.chains
 
 -- ---- no way back is short enough: dropped
 
 pub deepen-requires-2-clause-cells_bound : goal.deepen-requires-2-clause-cells_bound
 deepen-requires-2-clause-cells_bound c =
-    let fc : SFits w64 (get_or c.args.cost.now c.args.t (pos 0)) = search rules in
-    let fn : SFits w64 (get_or c.args.dist.now (at c.args.lo.now c.args.t) (pos 0)) = search rules in
-    let ff : SFits w64 (get_or c.args.dist.now (at c.args.hi.now c.args.t) (pos 0)) = search rules in
-    let gain_is : c.gain_of-gain.result ≡ gain_in c.args.t c.args.lo.now c.args.hi.now c.args.cost.now c.args.dist.now = gain_read c.requires fc fn ff c.gain_of-gain.ensures in
-    let gain_small : c.gain_of-gain.result ≤ 1000000 = omega (arith, gain_is, gain_upto c.requires) in
-    (c.requires.cells_upto, gain_small)
+    let is = gain_is c.requires c.gain_of-gain.ensures in
+    let small : c.gain_of-gain.result ≤ 1000000 = omega (arith, is, gain_upto c.requires) in
+    (c.requires.cells_upto, omega (arith, small))
 
 pub returns-clause-standing : goal.returns-clause-standing
 returns-clause-standing c w =
     let long : length c.args.kept.now ≡ 256 = omega arith in
-    let fc : SFits w64 (get_or c.args.cost.now c.args.t (pos 0)) = search rules in
-    let fn : SFits w64 (get_or c.args.dist.now (at c.args.lo.now c.args.t) (pos 0)) = search rules in
-    let ff : SFits w64 (get_or c.args.dist.now (at c.args.hi.now c.args.t) (pos 0)) = search rules in
-    let gain_is : c.gain_of-gain.result ≡ gain_in c.args.t c.args.lo.now c.args.hi.now c.args.cost.now c.args.dist.now = gain_read c.requires fc fn ff c.gain_of-gain.ensures in
-    let gain_some : c.gain_of-gain.result ≡ 0 → ⊥ = c.if-gain-eq0.false in
+    let is = gain_is c.requires c.gain_of-gain.ensures in
     let e = c.enter-2.ensures in
-    rw e.kept_after (dropped_after w long gain_is gain_some c.search.ensures c.if-search.false c.deepen-2.ensures)
+    rw e.kept_after (dropped_after w long is c.if-gain-eq0.false c.search.ensures c.if-search.false c.deepen-2.ensures)
 
 pub returns-clause-chains : goal.returns-clause-chains
 returns-clause-chains c =
