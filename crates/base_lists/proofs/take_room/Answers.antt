@@ -7,7 +7,7 @@ pub loop-j-init : goal.loop-j-init
 loop-j-init c = (omega arith, taken_none _ _ _)
 
 pub overflow_sub-room : goal.overflow_sub-room
-overflow_sub-room c = taken_room c.loop-j.invariant.1 c.loop-j-test.true c.requires.by_index
+overflow_sub-room c = omega (arith, taken_room c.loop-j.invariant.1 c.loop-j-test.true c.requires.by_index)
 
 pub loop-j-preserved : goal.loop-j-preserved
 loop-j-preserved c = (
