@@ -1,0 +1,24 @@
+-- What solves the row is a best set, so its profits are the best earnings of whatever line the columns hold; and the prices are cut down. Assumes nothing.
+use mathlib.Core.Path.{◌∙◌}
+use native.Mathlib.Omega.{arith}
+use Rattle.law_row.specs.Clamp.{clamp}
+use Rattle.plan_row.specs.Placing.{placed_low}
+use Rattle.plan_line.specs.Promised.{some_node, can_solve, falling, sum_best}
+use Rattle.plan_line.proofs.best_earnings.Goals as goal
+
+pub solve-requires : goal.solve-requires
+solve-requires c = can_solve c.requires.line_columns
+
+pub price-requires : goal.price-requires
+price-requires c =
+    let s = c in
+    let pre = s.requires in
+    record { falling = falling pre.line_columns s.solve.ensures; places = pre.one_to_one }
+
+pub returns : goal.returns
+unfolding clamp
+returns c =
+    let s = c in record { value = λ w. c.earned.ensures ∙ sum_best w s.solve.ensures; low_prices = placed_low (λ j. omega arith) c.price.ensures }
+
+pub overflow_sub-spans : goal.overflow_sub-spans
+overflow_sub-spans c = some_node c.requires.line_columns
