@@ -1,0 +1,20 @@
+-- `plan_ring::cut_ceiling` meets its contract: the turned columns and prices are those of the line which the cut leaves, and no line earns more than a ceiling.
+-- Assumes nothing.
+use borrow.Author.Rules.{rules}
+use Rattle.plan_ring.specs.Turned.{can_turn}
+use Rattle.plan_ring.specs.Known.{cut_priced, cut_bounded}
+use Rattle.plan_ring.proofs.cut_ceiling.Goals as goal
+
+pub ceiling_of-requires : goal.ceiling_of-requires
+ceiling_of-requires c =
+    let priced = c in
+    let turned = priced in
+    let p = turned in
+    cut_priced p.requires.ring_columns _ p.requires.j_lt_nodes.0 turned.turn_columns.ensures priced.turn_limits.ensures p.requires.j_lt_nodes.1
+
+pub returns : goal.returns
+returns c w =
+    let priced = c in
+    let turned = priced in
+    let p = turned in
+    cut_bounded w _ p.requires.j_lt_nodes.0 turned.turn_columns.ensures priced.turn_limits.ensures p.requires.j_lt_nodes.1 c.ceiling_of.ensures
