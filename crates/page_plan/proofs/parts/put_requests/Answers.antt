@@ -5,9 +5,11 @@ use Rattle.page_plan.proofs.parts.put_requests.Goals as goal
 pub loop-i-init : goal.loop-i-init
 loop-i-init c = (omega arith, printing_none _ _ _ _ _)
 
+-- there is room for the five numbers, in whatever order they are put
 pub put_request-place-requires : goal.put_request-place-requires
 put_request-place-requires c =
-    request_room c.requires.printable c.loop-i-test.true c.loop-i.invariant.1 c.requires.lines_room_in_bounds
+    let r = request_room c.requires.printable c.loop-i-test.true c.loop-i.invariant.1 c.requires.lines_room_in_bounds in
+    record { enough = omega (arith, r.enough) }
 
 pub loop-i-preserved : goal.loop-i-preserved
 loop-i-preserved c =
