@@ -39,7 +39,7 @@ check() {
 none 0 | check 'an empty file is 1' 'refused 1 at 0'
 net 1 2 4 | check 'a network record alone is 5 at 1' 'refused 5 at 1'
 # a folder can be opened and not read: that is no empty file
-[ -z "$("$light" <"$work")" ] || { echo 'printing: a page was written for an input that cannot be read'; failed=1; }
+[ -z "$("$light" <"$work" 2>/dev/null)" ] || { echo 'printing: a page was written for an input that cannot be read'; failed=1; }
 
 OUT="$work" sh tests/compare/run.sh standalone drive "$light" --books "${BOOKS:-20000}" ${SEED:+--seed "$SEED"} || failed=1
 [ "$failed" -eq 0 ] && echo 'printing: all as it should be'

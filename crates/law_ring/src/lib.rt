@@ -1,1 +1,3 @@
+#![tactic(auto)]
+
 // No code: what the rules of document 01 come to on a ring, in specs/.
