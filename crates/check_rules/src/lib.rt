@@ -1,5 +1,7 @@
 // Whether a plan obeys the rules (document 01, "Routes and a plan that obeys the rules"), on a line: first every entry by itself, then the number of those
 // that cross each span, and the channels.
+#![tactic(auto)]
+
 ghost use Rattle.std.specs.Prelude.{◌≡◌, not, ◌+◌, ◌*◌, ◌≤◌, length, eqb};
 ghost use Rattle.base_sums.specs.At.{NumbersBelow};
 ghost use Rattle.base_sums.specs.Sums.{when};

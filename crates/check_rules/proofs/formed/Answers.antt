@@ -2,7 +2,6 @@
 use mathlib.Core.Bool.{and-false}
 use Prim.Native.Nat.{◌%◌}
 use native.Mathlib.Omega.{arith}
-use borrow.Author.Rules.{rules}
 use borrow.Author.Tests.{eq-eqb, ne_eqb, lt-ltb, le-ltb}
 use Rattle.check_rules.specs.Entry.{formed_at}
 use Rattle.check_rules.proofs.formed.Goals as goal
@@ -17,17 +16,14 @@ returns-then-entry-way_of c = rw (← c.way_of.ensures, ne_eqb _ 0 c.if-entry-eq
 
 pub returns-then-channel-eq0 : goal.returns-then-channel-eq0
 unfolding formed_at
-returns-then-channel-eq0 c =
-    let first = c in
-    simp (ne_eqb _ 0 first.if-entry-eq0.false, le-ltb 0 (first.args.entry % 256) (omega arith), and-false)
+returns-then-channel-eq0 c = simp (ne_eqb _ 0 c.if-entry-eq0.false, le-ltb 0 (c.args.entry % 256) (omega arith), and-false)
 
 pub returns : goal.returns
 unfolding formed_at
 returns c =
-    let first = c in
     simp (
       ← c.way_of.ensures,
-      ne_eqb _ 0 first.if-entry-eq0.false,
+      ne_eqb _ 0 c.if-entry-eq0.false,
       eq-eqb _ _ c.if-entry-way_of.false,
-      lt-ltb 0 (first.args.entry % 256) (omega arith),
+      lt-ltb 0 (c.args.entry % 256) (omega arith),
     )

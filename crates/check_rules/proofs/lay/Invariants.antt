@@ -1,15 +1,9 @@
 -- `check_rules::lay` meets its contract: each turn fills one place of each column, if the entry is formed; one that is not ends the loop. Assumes nothing.
-use mathlib.Core.Path.{◌≡◌, sym, ◌∙◌}
+use mathlib.Core.Path.{◌≡◌}
 use mathlib.Core.Bool.{true}
 use Prim.Native.Nat.{ℕ, ◌-◌, ◌≤◌, ◌<◌}
-use native.Mathlib.Omega.{arith}
-use borrow.Author.Rules.{rules}
-use borrow.Author.Count.{below_more}
-use borrow.Author.Tests.{not-true, not-false}
 use Rattle.paper_book.specs.Bytes.{entry_in}
-use Rattle.paper_rules.specs.Plans as Plans
-use Rattle.paper_rules.specs.Plans.{kept}
-use Rattle.check_rules.specs.Entry.{formed_in, lays_wrong, lays_all, LayingPlan, laying_more}
+use Rattle.check_rules.specs.Entry.{formed_in, LayingPlan}
 use Rattle.check_rules.proofs.lay.Given as goal
 
 abbrev pub invariant-loop-i : goal.invariant-loop-i

@@ -1,22 +1,23 @@
-use mathlib.Core.Bool.{true}
-use mathlib.Core.Path.{◌≡◌, refl}
-use Prim.Native.Nat.{◌+◌, ◌-◌, ◌≤◌, ◌<◌}
+use Prim.Native.Nat.{◌+◌}
 use native.Mathlib.Omega.{arith}
-use Rattle.base_sums.specs.At.{flag}
 use Rattle.base_sums.specs.Each.{of_yes}
 use Rattle.paper_book.specs.Columns.{at}
 use Rattle.plan_channels.specs.Lists.{Leads}
-use Rattle.check_rules.specs.Sweep.{Swept, swept_pass, swept_next, swept_clash, swept_more}
+use Rattle.check_rules.specs.Sweep.{swept_pass, swept_clash, swept_more}
 use Rattle.check_rules.proofs.sweep.apart_from.Goals as goal
+
+pub returns-then-v-ends : goal.returns-then-v-ends
+returns-then-v-ends c =
+    let own = c.loop-i.invariant.1 (omega arith) in
+    record {
+      on = λ e. absurd (of_yes e);
+      stop = λ no. swept_clash c.requires.v_bound.1 c.loop-i.invariant.2 (omega arith) own.0 own.1 (omega arith);
+    }
 
 pub loop-i-preserved : goal.loop-i-preserved
 loop-i-preserved c =
-    let next : let here = c in
-    let args = here.args in
-    Leads args.count (here.loop-i.i + 1) args.v args.lo.now args.crossing.now (at args.after.now here.loop-i.i) = let here = c in
-    let own = here.loop-i.invariant.1 (omega arith) in
-    rw own.1 at (here.requires.listed_by_node.next here.loop-i.i (omega arith) (omega arith) own.0) in
-    let here = c in
-    let can = here.requires.v_bound.1 in
-    let own = here.loop-i.invariant.1 (omega arith) in
-    (next.upto, next.here, swept_pass can (swept_more can here.loop-i.invariant.2 (omega arith) own.0 own.1 (omega arith)) next)
+    let own = c.loop-i.invariant.1 (omega arith) in
+    let can = c.requires.v_bound.1 in
+    let next : Leads c.args.count (c.loop-i.i + 1) c.args.v c.args.lo.now c.args.crossing.now (at c.args.after.now c.loop-i.i) =
+    rw own.1 at (c.requires.listed_by_node.next c.loop-i.i (omega arith) (omega arith) own.0) in
+    (next.upto, next.here, swept_pass can (swept_more can c.loop-i.invariant.2 (omega arith) own.0 own.1 (omega arith)) next)

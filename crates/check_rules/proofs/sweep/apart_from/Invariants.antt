@@ -1,14 +1,11 @@
 -- `check_rules::sweep::apart_from` meets its contract. It is the turn of number i at node v (`Swept` of specs/Sweep), the next in the node's list: it clashes with
 -- the latest on its channel, or becomes the latest, and those up to the next one are passed over. Numbers rise along the list. Assumes nothing.
 use mathlib.Core.Bool.{true}
-use mathlib.Core.Path.{◌≡◌, refl}
-use Prim.Native.Nat.{◌+◌, ◌-◌, ◌≤◌, ◌<◌}
-use native.Mathlib.Omega.{arith}
+use mathlib.Core.Path.{◌≡◌}
+use Prim.Native.Nat.{◌-◌, ◌≤◌, ◌<◌}
 use Rattle.base_sums.specs.At.{flag}
-use Rattle.base_sums.specs.Each.{of_yes}
 use Rattle.paper_book.specs.Columns.{at}
-use Rattle.plan_channels.specs.Lists.{Leads}
-use Rattle.check_rules.specs.Sweep.{Swept, swept_pass, swept_next, swept_clash, swept_more}
+use Rattle.check_rules.specs.Sweep.{Swept}
 use Rattle.check_rules.proofs.sweep.apart_from.Given as goal
 
 abbrev pub invariant-loop-i : goal.invariant-loop-i

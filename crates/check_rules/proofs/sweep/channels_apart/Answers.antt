@@ -1,11 +1,7 @@
-use mathlib.Core.Path.{◌≡◌, refl, sym, ◌∙◌}
-use Prim.Native.Nat.{◌-◌, ◌≤◌}
 use native.Mathlib.Omega.{arith}
-use borrow.Author.Tests.{not-true, not-false}
-use Rattle.base_sums.specs.Each.{of_yes}
 use Rattle.plan_channels.specs.Lists.{listed_none}
 use Rattle.check_rules.specs.Spans.{begin_below}
-use Rattle.check_rules.specs.Sweep.{Swept, swept_start, swept_all, clash_not_apart}
+use Rattle.check_rules.specs.Sweep.{swept_start}
 use Rattle.check_rules.proofs.sweep.channels_apart.Goals as goal
 
 pub begin_lists-requires : goal.begin_lists-requires

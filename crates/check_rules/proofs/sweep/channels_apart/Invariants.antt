@@ -1,13 +1,7 @@
 -- `check_rules::sweep::channels_apart` meets its contract: with the lists made it is the turn of node 0, each node's turns end in the next one's, and a clash ends the
 -- loop; past the last span all that cross one had their turn. Assumes nothing.
-use mathlib.Core.Path.{◌≡◌, refl, sym, ◌∙◌}
 use Prim.Native.Nat.{◌-◌, ◌≤◌}
-use native.Mathlib.Omega.{arith}
-use borrow.Author.Tests.{not-true, not-false}
-use Rattle.base_sums.specs.Each.{of_yes}
-use Rattle.plan_channels.specs.Lists.{listed_none}
-use Rattle.check_rules.specs.Spans.{begin_below}
-use Rattle.check_rules.specs.Sweep.{Swept, swept_start, swept_all, clash_not_apart}
+use Rattle.check_rules.specs.Sweep.{Swept}
 use Rattle.check_rules.proofs.sweep.channels_apart.Given as goal
 
 abbrev pub invariant-loop-v : goal.invariant-loop-v

@@ -1,9 +1,6 @@
 -- `check_rules::sweep::tally_up` meets its contract: each turn counts one node more. Assumes nothing.
-use mathlib.Core.Path.{◌≡◌}
-use Prim.Native.Nat.{◌-◌, ◌≤◌, ◌<◌}
-use native.Mathlib.Omega.{arith}
-use Rattle.paper_book.specs.Columns.{at}
-use Rattle.check_rules.specs.Loads.{Tallied, tally_upto, tallied_more}
+use Prim.Native.Nat.{◌-◌, ◌≤◌}
+use Rattle.check_rules.specs.Loads.{Tallied}
 use Rattle.check_rules.proofs.sweep.tally_up.Given as goal
 
 abbrev pub invariant-loop-i : goal.invariant-loop-i

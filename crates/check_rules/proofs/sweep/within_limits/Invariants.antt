@@ -1,10 +1,6 @@
 -- `check_rules::sweep::within_limits` meets its contract: each turn is a step of `Loaded`, and a span above its limit ends the loop. Assumes nothing.
-use mathlib.Core.Path.{◌≡◌, refl}
 use Prim.Native.Nat.{◌-◌, ◌≤◌}
-use native.Mathlib.Omega.{arith}
-use Rattle.base_sums.specs.Each.{of_yes}
-use Rattle.check_rules.specs.Spans.{begin_below}
-use Rattle.check_rules.specs.Loads.{tallied_none, tally_upto, Loaded, loaded_none, load_turns, loaded_more, load_above}
+use Rattle.check_rules.specs.Loads.{Loaded}
 use Rattle.check_rules.proofs.sweep.within_limits.Given as goal
 
 abbrev pub invariant-loop-s : goal.invariant-loop-s
