@@ -1,5 +1,7 @@
 // The checker of anyone's plan (document 01, "Prices and the checker"): yes exactly when the plan obeys the rules and its earnings equal the
 // ceiling of the prices. It writes nothing.
+#![tactic(auto)]
+
 ghost use Rattle.std.specs.Prelude.{◌≡◌};
 ghost use Rattle.paper_book.specs.Bytes.{entry_in, price_in};
 ghost use Rattle.paper_rules.specs.Prices.{verdict};

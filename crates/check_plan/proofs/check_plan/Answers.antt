@@ -1,6 +1,5 @@
 -- `check_plan::check_plan` meets its contract: the reader's refusal is the checker's, and an accepted book is checked with its requests lent. Assumes
 -- nothing.
-use borrow.Author.Rules.{rules}
 use Rattle.read_book.specs.Accepted.{refused_read}
 use Rattle.work_columns.proofs.Seam.{accepted}
 use Rattle.check_plan.specs.Checked.{checked_of}
@@ -12,11 +11,7 @@ unfolding checked_of
 returns-in-Refused c = book_refused _ _ _ (refused_read c.read_book-taken.ensures c.in-Refused.is)
 
 pub check_accepted-requires : goal.check_accepted-requires
-check_accepted-requires c =
-    let told = c in
-    (accepted told.read_book-taken.ensures c.in-Accepted.is).0
+check_accepted-requires c = (accepted c.read_book-taken.ensures c.in-Accepted.is).0
 
 pub returns : goal.returns
-returns c =
-    let told = c in
-    book_accepted _ _ _ (accepted told.read_book-taken.ensures c.in-Accepted.is).1 c.check_accepted.ensures
+returns c = book_accepted _ _ _ (accepted c.read_book-taken.ensures c.in-Accepted.is).1 c.check_accepted.ensures

@@ -1,7 +1,5 @@
 -- `check_plan::weigh` meets its contract: a plan that breaks the rules is a no, and for any other the sums decide. Assumes nothing.
 use native.Mathlib.Omega.{arith}
-use borrow.Author.Rules.{rules}
-use borrow.Author.Tests.{not-true, not-false}
 use Rattle.paper_rules.specs.Prices.{verdict}
 use Rattle.law_line.specs.HeldLine.{few_spans}
 use Rattle.check_rules.specs.Drawn.{drawn, ends_below}

@@ -1,12 +1,7 @@
-use mathlib.Core.Path.{◌≡◌, sym}
-use mathlib.Core.Bool.{false}
-use Prim.Native.Nat.{ℕ, ◌-◌, ◌≤◌, ◌<◌}
+use mathlib.Core.Path.{sym}
 use native.Mathlib.Omega.{arith}
-use borrow.Author.Count.{below_more}
-use borrow.Author.Tests.{lt-ltb, le-ltb}
-use lib.Dec.{ltb}
+use borrow.Author.Tests.{lt-ltb}
 use Rattle.base_sums.specs.Each.{first_here}
-use Rattle.paper_book.specs.Bytes.{price_in}
 use Rattle.check_plan.proofs.places.dear.Goals as goal
 
 pub returns-then-price_at-gt1000000 : goal.returns-then-price_at-gt1000000

@@ -1,12 +1,8 @@
 -- `check_plan::places::dear` meets its contract: no span passed is too dear, and the first that is ends the loop. Assumes nothing.
-use mathlib.Core.Path.{◌≡◌, sym}
+use mathlib.Core.Path.{◌≡◌}
 use mathlib.Core.Bool.{false}
 use Prim.Native.Nat.{ℕ, ◌-◌, ◌≤◌, ◌<◌}
-use native.Mathlib.Omega.{arith}
-use borrow.Author.Count.{below_more}
-use borrow.Author.Tests.{lt-ltb, le-ltb}
 use lib.Dec.{ltb}
-use Rattle.base_sums.specs.Each.{first_here}
 use Rattle.paper_book.specs.Bytes.{price_in}
 use Rattle.check_plan.proofs.places.dear.Given as goal
 

@@ -1,9 +1,7 @@
-use mathlib.Core.Path.{◌≡◌, ◌∙◌}
-use Prim.Native.Nat.{◌-◌, ◌≤◌}
+use mathlib.Core.Path.{◌∙◌}
 use native.Mathlib.Omega.{arith}
-use lib.ListN.{length, length-set}
-use Rattle.base_sums.specs.Filled.{Filled, filled_none, filled_more}
-use Rattle.paper_book.specs.Bytes.{price_in}
+use lib.ListN.{length-set}
+use Rattle.base_sums.specs.Filled.{filled_none, filled_more}
 use Rattle.check_plan.proofs.places.price_list.Goals as goal
 
 pub loop-s-init : goal.loop-s-init

@@ -1,9 +1,8 @@
 -- `check_plan::places::price_list` meets its contract: each turn puts one price in its place. Assumes nothing.
-use mathlib.Core.Path.{◌≡◌, ◌∙◌}
+use mathlib.Core.Path.{◌≡◌}
 use Prim.Native.Nat.{◌-◌, ◌≤◌}
-use native.Mathlib.Omega.{arith}
-use lib.ListN.{length, length-set}
-use Rattle.base_sums.specs.Filled.{Filled, filled_none, filled_more}
+use lib.ListN.{length}
+use Rattle.base_sums.specs.Filled.{Filled}
 use Rattle.paper_book.specs.Bytes.{price_in}
 use Rattle.check_plan.proofs.places.price_list.Given as goal
 

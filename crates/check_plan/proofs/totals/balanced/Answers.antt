@@ -5,9 +5,13 @@ use Rattle.check_plan.specs.Balance.{can_earn, priced_line, same_balance}
 use Rattle.check_plan.proofs.totals.balanced.Goals as goal
 
 pub price_list-requires : goal.price_list-requires
-price_list-requires c =
-    let w = c.requires in
-    omega (arith, few_spans w.held, w.prices_enough)
+price_list-requires c = omega (arith, few_spans c.requires.held, c.requires.prices_enough)
+
+pub ceiling_of-top-requires : goal.ceiling_of-top-requires
+ceiling_of-top-requires c = priced_line c.requires c.price_list.ensures
+
+pub earned-requires : goal.earned-requires
+earned-requires c = can_earn c.requires
 
 pub returns : goal.returns
 unfolding priced_line
