@@ -1,5 +1,7 @@
 // The best plan on a line, with its channels and its prices (document 01, "What the planner hands back"). The line is a row: its spans are the cells, and a
 // request lies over the cells between its ends.
+#![tactic(auto)]
+
 mod entries;
 
 ghost use Rattle.std.specs.Prelude.{◌≡◌, ◌-◌};

@@ -10,15 +10,11 @@ pub solve-requires : goal.solve-requires
 solve-requires c = can_solve c.requires.line_columns
 
 pub price-requires : goal.price-requires
-price-requires c =
-    let s = c in
-    let pre = s.requires in
-    record { falling = falling pre.line_columns s.solve.ensures; places = pre.one_to_one }
+price-requires c = record { falling = falling c.requires.line_columns c.solve.ensures; places = c.requires.one_to_one }
 
 pub returns : goal.returns
 unfolding clamp
-returns c =
-    let s = c in record { value = λ w. c.earned.ensures ∙ sum_best w s.solve.ensures; low_prices = placed_low (λ j. omega arith) c.price.ensures }
+returns c = record { value = λ w. c.earned.ensures ∙ sum_best w c.solve.ensures; low_prices = placed_low (λ j. omega arith) c.price.ensures }
 
 pub overflow_sub-spans : goal.overflow_sub-spans
 overflow_sub-spans c = some_node c.requires.line_columns

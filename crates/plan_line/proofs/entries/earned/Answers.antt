@@ -1,9 +1,7 @@
-use mathlib.Core.Path.{◌≡◌}
-use Prim.Native.Nat.{◌-◌, ◌≤◌}
 use native.Mathlib.Omega.{arith}
-use Rattle.base_sums.specs.Turns.{Running, running_none}
+use Rattle.base_sums.specs.Turns.{running_none}
 use Rattle.paper_book.specs.Columns.{at}
-use Rattle.plan_line.specs.Totals.{over_kept, kept_more, left_more}
+use Rattle.plan_line.specs.Totals.{kept_more, left_more}
 use Rattle.plan_line.proofs.entries.earned.Goals as goal
 use Rattle.plan_line.proofs.entries.earned.Goals.{then-kept-i, else-kept-i}
 
@@ -13,10 +11,9 @@ loop-i-init c = (omega arith, running_none)
 pub loop-i-preserved : goal.loop-i-preserved
 loop-i-preserved c =
     let l = c.loop-i in
-    let s = c in
-    let kept = s.args.kept.now in
-    let profit = at s.args.profit.now in
+    let kept = c.args.kept.now in
+    let profit = at c.args.profit.now in
     elim c.if-kept-i.branch [
-      then-kept-i w ↦ rw w.sum-is (omega arith, kept_more kept profit l.invariant.1 w.if-kept-i.true (s.requires.upto l.i (omega arith)))
-    | else-kept-i w ↦ rw w.sum-is (omega arith, left_more kept profit l.invariant.1 w.if-kept-i.false)
+      | then-kept-i w ↦ rw w.sum-is (omega arith, kept_more kept profit l.invariant.1 w.if-kept-i.true (c.requires.upto l.i (omega arith)))
+      | else-kept-i w ↦ rw w.sum-is (omega arith, left_more kept profit l.invariant.1 w.if-kept-i.false)
     ]

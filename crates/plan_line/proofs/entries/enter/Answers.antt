@@ -1,8 +1,6 @@
-use mathlib.Core.Path.{◌≡◌}
-use Prim.Native.Nat.{◌-◌, ◌≤◌}
 use native.Mathlib.Omega.{arith}
-use Rattle.base_sums.specs.Vacant.{Vacant, vacant_set}
-use Rattle.plan_line.specs.Entering.{Entering, entering_none, entering_left, entering_up, entering_down}
+use Rattle.base_sums.specs.Vacant.{vacant_set}
+use Rattle.plan_line.specs.Entering.{entering_left, entering_up, entering_down}
 use Rattle.plan_line.proofs.entries.enter.Goals as goal
 use Rattle.plan_line.proofs.entries.enter.Goals.{then-kept-i+then-a-i, then-kept-i+else-a-i, else-kept-i}
 
@@ -10,11 +8,11 @@ pub loop-i-preserved : goal.loop-i-preserved
 loop-i-preserved c =
     let l = c.loop-i in
     elim c.if-kept-i.branch [
-      then-kept-i+then-a-i w ↦
-        rw w.entries-is
-        (omega arith, entering_up l.invariant.1 (omega arith) w.if-kept-i.true w.if-a-i.true, λ new. vacant_set (l.invariant.2 new) l.i _ (omega arith))
-    | then-kept-i+else-a-i w ↦
-        rw w.entries-is
-        (omega arith, entering_down l.invariant.1 (omega arith) w.if-kept-i.true w.if-a-i.false, λ new. vacant_set (l.invariant.2 new) l.i _ (omega arith))
-    | else-kept-i w ↦ rw w.entries-is (omega arith, entering_left l.invariant.1 (omega arith) w.if-kept-i.false, λ new. vacant_set (l.invariant.2 new) l.i _ (omega arith))
+      | then-kept-i+then-a-i w ↦
+          rw w.entries-is
+          (omega arith, entering_up l.invariant.1 (omega arith) w.if-kept-i.true w.if-a-i.true, λ new. vacant_set (l.invariant.2 new) l.i _ (omega arith))
+      | then-kept-i+else-a-i w ↦
+          rw w.entries-is
+          (omega arith, entering_down l.invariant.1 (omega arith) w.if-kept-i.true w.if-a-i.false, λ new. vacant_set (l.invariant.2 new) l.i _ (omega arith))
+      | else-kept-i w ↦ rw w.entries-is (omega arith, entering_left l.invariant.1 (omega arith) w.if-kept-i.false, λ new. vacant_set (l.invariant.2 new) l.i _ (omega arith))
     ]

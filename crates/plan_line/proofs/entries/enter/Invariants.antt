@@ -1,10 +1,7 @@
 -- Each turn writes one entry, below the count: 0, or the way up or down and the channel. Assumes nothing.
-use mathlib.Core.Path.{◌≡◌}
-use mathlib.Core.Logic.{⊎_elim}
 use Prim.Native.Nat.{◌-◌, ◌≤◌}
-use native.Mathlib.Omega.{arith}
-use Rattle.base_sums.specs.Vacant.{Vacant, vacant_set}
-use Rattle.plan_line.specs.Entering.{Entering, entering_none, entering_left, entering_up, entering_down}
+use Rattle.base_sums.specs.Vacant.{Vacant}
+use Rattle.plan_line.specs.Entering.{Entering}
 use Rattle.plan_line.proofs.entries.enter.Given as goal
 
 abbrev pub invariant-loop-i : goal.invariant-loop-i

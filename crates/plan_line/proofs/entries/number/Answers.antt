@@ -1,8 +1,6 @@
-use mathlib.Core.Path.{◌≡◌}
-use Prim.Native.Nat.{◌-◌, ◌≤◌}
 use native.Mathlib.Omega.{arith}
-use Rattle.base_sums.specs.Turns.{Running, running_none}
-use Rattle.plan_line.specs.Totals.{over_kept, kept_more, left_more}
+use Rattle.base_sums.specs.Turns.{running_none}
+use Rattle.plan_line.specs.Totals.{kept_more, left_more}
 use Rattle.plan_line.proofs.entries.number.Goals as goal
 use Rattle.plan_line.proofs.entries.number.Goals.{then-kept-i, else-kept-i}
 
@@ -14,6 +12,6 @@ loop-i-preserved c =
     let l = c.loop-i in
     let kept = c.args.kept.now in
     elim c.if-kept-i.branch [
-      then-kept-i w ↦ rw w.sum-is (omega arith, kept_more kept (λ i. 1) l.invariant.1 w.if-kept-i.true (omega arith))
-    | else-kept-i w ↦ rw w.sum-is (omega arith, left_more kept (λ i. 1) l.invariant.1 w.if-kept-i.false)
+      | then-kept-i w ↦ rw w.sum-is (omega arith, kept_more kept (λ i. 1) l.invariant.1 w.if-kept-i.true (omega arith))
+      | else-kept-i w ↦ rw w.sum-is (omega arith, left_more kept (λ i. 1) l.invariant.1 w.if-kept-i.false)
     ]

@@ -1,10 +1,7 @@
 -- Each turn counts one more, or none. Assumes nothing.
-use mathlib.Core.Path.{◌≡◌}
-use mathlib.Core.Logic.{⊎_elim}
 use Prim.Native.Nat.{◌-◌, ◌≤◌}
-use native.Mathlib.Omega.{arith}
-use Rattle.base_sums.specs.Turns.{Running, running_none}
-use Rattle.plan_line.specs.Totals.{over_kept, kept_more, left_more}
+use Rattle.base_sums.specs.Turns.{Running}
+use Rattle.plan_line.specs.Totals.{over_kept}
 use Rattle.plan_line.proofs.entries.number.Given as goal
 
 abbrev pub invariant-loop-i : goal.invariant-loop-i
