@@ -1,4 +1,6 @@
 // The page that the printing program writes for a book (document 01, "Books and figures"): its plan, or the one line of its refusal.
+#![tactic(auto)]
+
 ghost use Rattle.page_book.specs.Page.{Paged};
 
 use plan_book::Answer;

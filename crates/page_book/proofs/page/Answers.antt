@@ -1,5 +1,4 @@
 -- `page_book::page` meets its contract: the planner refuses or plans, and what it answers is printed. Assumes nothing.
-use borrow.Author.Rules.{rules}
 use Rattle.page_book.specs.Page.{page_refused, page_printable, page_planned}
 use Rattle.page_book.proofs.page.Goals as goal
 
