@@ -1,5 +1,7 @@
 // The desk's boundary (document 01, "What the desk plans"): planner and checker on bytes and numbers, which the crate `desk_c` exports for a C program.
 // docs/DESK.md has the packing.
+#![tactic(auto)]
+
 mod pack;
 mod write;
 

@@ -1,5 +1,4 @@
 -- `desk::melyonva_check` meets its contract: each answer of the checker is packed as it means. Assumes nothing.
-use borrow.Author.Rules.{rules}
 use Rattle.desk.specs.Checking.{packed_yes, packed_no, refused_small, packed_refused}
 use Rattle.desk.proofs.melyonva_check.Goals as goal
 

@@ -1,6 +1,5 @@
-use mathlib.Core.Path.{◌≡◌}
 use native.Mathlib.Omega.{arith}
-use Rattle.desk.specs.Writing.{Putting, putting_none, putting_more}
+use Rattle.desk.specs.Writing.{putting_more}
 use Rattle.desk.proofs.write.put.Goals as goal
 
 pub loop-left-preserved : goal.loop-left-preserved

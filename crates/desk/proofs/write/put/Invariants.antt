@@ -1,7 +1,5 @@
 -- `desk::write::put` meets its contract: each turn writes the last byte that is left. Assumes nothing.
-use mathlib.Core.Path.{◌≡◌}
-use native.Mathlib.Omega.{arith}
-use Rattle.desk.specs.Writing.{Putting, putting_none, putting_more}
+use Rattle.desk.specs.Writing.{Putting}
 use Rattle.desk.proofs.write.put.Given as goal
 
 abbrev pub invariant-loop-left : goal.invariant-loop-left

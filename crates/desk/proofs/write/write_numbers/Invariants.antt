@@ -1,10 +1,7 @@
 -- `desk::write::write_numbers` meets its contract: each turn writes one more number. Assumes nothing.
-use mathlib.Core.Path.{◌≡◌}
 use Prim.Native.Nat.{◌-◌, ◌≤◌}
-use native.Mathlib.Omega.{arith}
 use Rattle.paper_book.specs.Columns.{at}
 use Rattle.desk.specs.Promise.{Written}
-use Rattle.desk.specs.Writing.{room_for, written_none, written_more}
 use Rattle.desk.proofs.write.write_numbers.Given as goal
 
 abbrev pub invariant-loop-i : goal.invariant-loop-i
