@@ -1,5 +1,7 @@
 // The planner of document 01 on any file: reads the book, plans its line or its ring, and answers with numbers. It writes nowhere: what is handed to the
 // desk's lists or printed is made from its answer.
+#![tactic(auto)]
+
 ghost use Rattle.std.specs.Prelude.{◌≡◌};
 ghost use Rattle.read_book.specs.Says.{book_from};
 ghost use Rattle.work_columns.specs.Seam.{HeldBook, LentBook};

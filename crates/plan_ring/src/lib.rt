@@ -1,5 +1,7 @@
 // The plan on a ring (document 01, "What the planner hands back"): each span is cut in turn, and the best plan of the best line that is left is handed back.
 // A cut whose line cannot earn more than the best so far is passed over.
+#![tactic(auto)]
+
 mod known;
 
 ghost use Rattle.std.specs.Prelude.{◌≡◌, ◌≤◌, ◌<◌, max};

@@ -1,6 +1,5 @@
 -- `plan_book::answer_of` meets its contract: case by case. Assumes nothing.
 use Rattle.plan_book.specs.Promise.{answered}
-use borrow.Author.Rules.{rules}
 use Rattle.plan_book.proofs.answer_of.Goals as goal
 
 pub returns-in-Planned : goal.returns-in-Planned

@@ -1,7 +1,6 @@
 -- `plan_book::find` meets its contract: what the planner of its shape promises is a plan of the book that the columns hold. Assumes nothing.
 use mathlib.Core.Path.{refl}
 use Rattle.plan_book.specs.Held.{held_line, held_ring, on_line, on_ring}
-use borrow.Author.Rules.{rules}
 use Rattle.plan_book.proofs.find.Goals as goal
 
 pub plan_line-plan-requires : goal.plan_line-plan-requires

@@ -1,7 +1,6 @@
 -- `plan_book::plan_book` meets its contract: the reader refuses the file, or its book is planned. Assumes nothing.
 use Rattle.work_columns.proofs.Seam.{accepted}
 use Rattle.plan_book.specs.Held.{unread, read}
-use borrow.Author.Rules.{rules}
 use Rattle.plan_book.proofs.plan_book.Goals as goal
 
 pub plan_accepted-requires : goal.plan_accepted-requires

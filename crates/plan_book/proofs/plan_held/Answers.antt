@@ -1,7 +1,6 @@
 -- `plan_book::plan_held` meets its contract: 12, or what is found, beside the columns. Assumes nothing.
 use mathlib.Core.Path.{◌∙◌}
 use Rattle.plan_book.specs.Held.{short_is, held_short, held_long}
-use borrow.Author.Rules.{rules}
 use Rattle.plan_book.proofs.plan_held.Goals as goal
 
 pub returns-then-short : goal.returns-then-short

@@ -1,10 +1,7 @@
-use Prim.Native.Nat.{◌-◌, ◌≤◌}
 use native.Mathlib.Omega.{arith}
-use Rattle.plan_row.specs.Placing.{LowPrices}
-use Rattle.plan_ring.specs.Promise.{RingColumns}
-use Rattle.plan_ring.specs.Turned.{few_nodes, some_nodes}
+use Rattle.plan_ring.specs.Turned.{some_nodes}
 use Rattle.plan_ring.specs.Known.{low_none}
-use Rattle.plan_ring.specs.Choosing.{BestBelow, best_first, best_better, best_stays, best_chosen}
+use Rattle.plan_ring.specs.Choosing.{best_better, best_stays, best_chosen}
 use Rattle.plan_ring.proofs.best_cut.Goals as goal
 use Rattle.plan_ring.proofs.best_cut.Goals.{then-top-earned, else-top-earned}
 
@@ -19,8 +16,8 @@ loop-j-preserved c =
       omega arith,
       λ w.
           elim c.if-top-earned.branch [
-            then-top-earned x ↦ rw (x.top-is, x.best-is) (best_better (l.invariant.2 w) (tried.value w) x.if-top-earned.true)
-          | else-top-earned x ↦ rw (x.top-is, x.best-is) (best_stays (l.invariant.2 w) (tried.value w) x.if-top-earned.false)
+            | then-top-earned x ↦ rw (x.top-is, x.best-is) (best_better (l.invariant.2 w) (tried.value w) x.if-top-earned.true)
+            | else-top-earned x ↦ rw (x.top-is, x.best-is) (best_stays (l.invariant.2 w) (tried.value w) x.if-top-earned.false)
           ],
       tried.low_prices,
     )

@@ -1,13 +1,9 @@
 -- `plan_ring::best_cut` meets its contract: the best so far is the lowest of the greatest among the cuts tried; a cut that earns more takes its place, and
 -- one that is passed over does not earn more. Each turn leaves one cut fewer. Assumes nothing.
-use mathlib.Core.Logic.{⊎_elim}
 use Prim.Native.Nat.{◌-◌, ◌≤◌}
-use native.Mathlib.Omega.{arith}
 use Rattle.plan_row.specs.Placing.{LowPrices}
 use Rattle.plan_ring.specs.Promise.{RingColumns}
-use Rattle.plan_ring.specs.Turned.{few_nodes, some_nodes}
-use Rattle.plan_ring.specs.Known.{low_none}
-use Rattle.plan_ring.specs.Choosing.{BestBelow, best_first, best_better, best_stays, best_chosen}
+use Rattle.plan_ring.specs.Choosing.{BestBelow}
 use Rattle.plan_ring.proofs.best_cut.Given as goal
 
 abbrev pub invariant-loop-j : goal.invariant-loop-j

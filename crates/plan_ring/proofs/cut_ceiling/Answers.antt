@@ -1,7 +1,5 @@
 -- `plan_ring::cut_ceiling` meets its contract: the turned columns and prices are those of the line which the cut leaves, and no line earns more than a ceiling.
 -- Assumes nothing.
-use borrow.Author.Rules.{rules}
-use Rattle.plan_ring.specs.Turned.{can_turn}
 use Rattle.plan_ring.specs.Known.{cut_priced, cut_bounded}
 use Rattle.plan_ring.proofs.cut_ceiling.Goals as goal
 

@@ -1,5 +1,5 @@
 -- `plan_ring::cut_earnings` meets its contract: the turned columns hold the line which the cut leaves, and `known::best_earnings` speaks of that line. Assumes nothing.
-use Rattle.plan_ring.specs.Turned.{few_nodes, some_nodes, can_turn, cut_columns, cut_earned}
+use Rattle.plan_ring.specs.Turned.{few_nodes, some_nodes, cut_columns, cut_earned}
 use Rattle.plan_ring.proofs.cut_earnings.Goals as goal
 
 pub best_earnings-requires : goal.best_earnings-requires

@@ -1,5 +1,4 @@
 -- `plan_ring::plan_ring` meets its contract: the cut is the one that `best_cut` chose, and the line planner's promise is that of its line. Assumes nothing.
-use borrow.Author.Rules.{rules}
 use Rattle.plan_ring.specs.Turned.{chosen_in, can_turn, cut_plannable, cut_planned}
 use Rattle.plan_ring.proofs.plan_ring.Goals as goal
 

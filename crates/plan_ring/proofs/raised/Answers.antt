@@ -1,6 +1,5 @@
 -- `plan_ring::raised` meets its contract: where the ceiling is not above `top`, what the line can earn is not either. Assumes nothing.
 use native.Mathlib.Omega.{arith}
-use borrow.Author.Rules.{rules}
 use Rattle.plan_ring.proofs.raised.Goals as goal
 
 -- FIX: clauses ['ring_columns', 'j_lt_nodes']

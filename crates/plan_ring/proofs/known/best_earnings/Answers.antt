@@ -1,7 +1,6 @@
 -- `plan_ring::known::best_earnings` meets its contract: `plan_line::best_earnings` says what the line can earn and puts its prices at the ring's spans, and none is
 -- too high. Assumes nothing.
 use native.Mathlib.Omega.{arith}
-use borrow.Author.Rules.{rules}
 use Rattle.plan_ring.specs.Known.{ring_places}
 use Rattle.plan_ring.proofs.known.best_earnings.Goals as goal
 

@@ -2,9 +2,7 @@
 -- Assumes nothing.
 use Prim.Native.Nat.{◌-◌, ◌<◌}
 use native.Mathlib.Omega.{arith}
-use borrow.Author.Rules.{rules}
 use Rattle.law_ring.specs.Turn.{span_below}
-use Rattle.plan_ring.specs.Known.{low_more}
 use Rattle.plan_ring.proofs.known.bridge.Goals as goal
 
 pub offset_bounds-known-span_at : goal.offset_bounds-known-span_at

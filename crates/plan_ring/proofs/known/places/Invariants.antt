@@ -1,9 +1,8 @@
 -- `plan_ring::known::places` meets its contract: each turn puts the span of one place. Assumes nothing.
-use mathlib.Core.Path.{◌≡◌, refl, ◌∙◌}
+use mathlib.Core.Path.{◌≡◌}
 use Prim.Native.Nat.{◌-◌, ◌≤◌}
-use native.Mathlib.Omega.{arith}
-use lib.ListN.{length, length-set}
-use Rattle.base_sums.specs.Filled.{Filled, filled_none, filled_more}
+use lib.ListN.{length}
+use Rattle.base_sums.specs.Filled.{Filled}
 use Rattle.paper_rules.specs.Cuts.{span_at}
 use Rattle.plan_ring.proofs.known.places.Given as goal
 
