@@ -5,14 +5,10 @@ use Rattle.plan_ring.proofs.cut_ceiling.Goals as goal
 
 pub ceiling_of-requires : goal.ceiling_of-requires
 ceiling_of-requires c =
-    let priced = c in
-    let turned = priced in
-    let p = turned in
-    cut_priced p.requires.ring_columns _ p.requires.j_lt_nodes.0 turned.turn_columns.ensures priced.turn_limits.ensures p.requires.j_lt_nodes.1
+    let p = c.requires in
+    cut_priced p.ring_columns _ p.j_lt_nodes.0 c.turn_columns.ensures c.turn_limits.ensures p.j_lt_nodes.1
 
 pub returns : goal.returns
 returns c w =
-    let priced = c in
-    let turned = priced in
-    let p = turned in
-    cut_bounded w _ p.requires.j_lt_nodes.0 turned.turn_columns.ensures priced.turn_limits.ensures p.requires.j_lt_nodes.1 c.ceiling_of.ensures
+    let p = c.requires in
+    cut_bounded w _ p.j_lt_nodes.0 c.turn_columns.ensures c.turn_limits.ensures p.j_lt_nodes.1 c.ceiling_of.ensures

@@ -4,19 +4,15 @@ use Rattle.plan_ring.proofs.plan_ring.Goals as goal
 
 pub turn_columns-requires : goal.turn_columns-requires
 turn_columns-requires c =
-    let chosen = c in
-    let p = chosen in
-    can_turn p.requires.columns _ (chosen_in p.requires.columns (chosen.best_cut-j.ensures p.requires.columns))
+    let p = c.requires in
+    can_turn p.columns _ (chosen_in p.columns (c.best_cut-j.ensures p.columns))
 
 pub plan_line-plan-requires : goal.plan_line-plan-requires
 plan_line-plan-requires c =
-    let t = c in
-    let chosen = t in
-    let p = chosen in
-    cut_plannable p.requires.columns _ (chosen_in p.requires.columns (chosen.best_cut-j.ensures p.requires.columns)) t.turn_columns.ensures p.requires.channels_is
+    let p = c.requires in
+    cut_plannable p.columns _ (chosen_in p.columns (c.best_cut-j.ensures p.columns)) c.turn_columns.ensures p.channels_is
 
 pub returns : goal.returns
 returns c w =
-    let t = c in
-    let chosen = t.best_cut-j.ensures w.columns in
-    cut_planned w.columns _ (chosen_in w.columns chosen) t.turn_columns.ensures w.channels_is c.plan_line-plan.ensures chosen
+    let chosen = c.best_cut-j.ensures w.columns in
+    cut_planned w.columns _ (chosen_in w.columns chosen) c.turn_columns.ensures w.channels_is c.plan_line-plan.ensures chosen

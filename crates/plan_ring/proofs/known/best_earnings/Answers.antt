@@ -4,7 +4,5 @@ use native.Mathlib.Omega.{arith}
 use Rattle.plan_ring.specs.Known.{ring_places}
 use Rattle.plan_ring.proofs.known.best_earnings.Goals as goal
 
-pub best_earnings-earned-requires : goal.best_earnings-earned-requires
-best_earnings-earned-requires c =
-    let m = c in
-    let p = m in record { line_columns = p.requires.line_columns; one_to_one = ring_places p.requires.j_lt_nodes.0 p.requires.j_lt_nodes.2 m.places.ensures (omega arith) }
+pub best_earnings-earned-requires-clause-one_to_one : goal.best_earnings-earned-requires-clause-one_to_one
+best_earnings-earned-requires-clause-one_to_one c = ring_places c.requires.j_lt_nodes.0 c.requires.j_lt_nodes.2 c.places.ensures (omega arith)

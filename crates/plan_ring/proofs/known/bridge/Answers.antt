@@ -1,30 +1,18 @@
 -- `plan_ring::known::bridge` meets its contract: both neighbours are spans of the ring, and the higher of two prices that are not too high is not too high.
 -- Assumes nothing.
-use Prim.Native.Nat.{◌-◌, ◌<◌}
+use Prim.Native.Nat.{◌-◌}
 use native.Mathlib.Omega.{arith}
 use Rattle.law_ring.specs.Turn.{span_below}
 use Rattle.plan_ring.proofs.known.bridge.Goals as goal
 
 pub offset_bounds-known-span_at : goal.offset_bounds-known-span_at
-offset_bounds-known-span_at c =
-    let after_in : c.span_at.result < 64 = let p = c in
-    omega (arith, c.span_at.ensures, span_below p.args.nodes p.args.j p.requires.0 0 (omega arith)) in
-    omega (arith, after_in)
+offset_bounds-known-span_at c = omega (arith, c.span_at.ensures, span_below c.args.nodes c.args.j c.requires.0 0 (omega arith))
 
 pub bounds-known-span_at : goal.bounds-known-span_at
-bounds-known-span_at c =
-    let after_in : c.span_at.result < 64 = let p = c in
-    omega (arith, c.span_at.ensures, span_below p.args.nodes p.args.j p.requires.0 0 (omega arith)) in
-    omega (arith, after_in)
+bounds-known-span_at c = omega (arith, c.span_at.ensures, span_below c.args.nodes c.args.j c.requires.0 0 (omega arith))
 
 pub offset_bounds-known-span_at-2 : goal.offset_bounds-known-span_at-2
-offset_bounds-known-span_at-2 c =
-    let before_in : c.span_at-2.result < 64 = let p = c in
-    omega (arith, c.span_at-2.ensures, span_below p.args.nodes p.args.j p.requires.0 (p.args.nodes - 2) (omega arith)) in
-    omega (arith, before_in)
+offset_bounds-known-span_at-2 c = omega (arith, c.span_at-2.ensures, span_below c.args.nodes c.args.j c.requires.0 (c.args.nodes - 2) (omega arith))
 
 pub bounds-known-span_at-2 : goal.bounds-known-span_at-2
-bounds-known-span_at-2 c =
-    let before_in : c.span_at-2.result < 64 = let p = c in
-    omega (arith, c.span_at-2.ensures, span_below p.args.nodes p.args.j p.requires.0 (p.args.nodes - 2) (omega arith)) in
-    omega (arith, before_in)
+bounds-known-span_at-2 c = omega (arith, c.span_at-2.ensures, span_below c.args.nodes c.args.j c.requires.0 (c.args.nodes - 2) (omega arith))
