@@ -8,6 +8,5 @@ returns-then-short c held = held_short (short_is _ _ held c.spans_of-spans.ensur
 
 pub returns : goal.returns
 returns c held =
-    let tested = c in
-    let spans = tested.spans_of-spans.ensures in
-    held_long (short_is _ _ held spans tested.short.ensures ∙ tested.if-short.false) (rw spans (c.find-found.ensures held))
+    let spans = c.spans_of-spans.ensures in
+    held_long (short_is _ _ held spans c.short.ensures ∙ c.if-short.false) (rw spans (c.find-found.ensures held))
