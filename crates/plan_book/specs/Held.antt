@@ -18,8 +18,7 @@ use Rattle.read_book.specs.declared.Taken.{Taken}
 use Rattle.read_book.specs.declared.Answer.TheVariants.{Accepted, Refused}
 use Rattle.read_book.specs.Says.{Reads, book_from}
 use Rattle.read_book.specs.Accepted.{refused_read}
-use Rattle.work_columns.specs.Seam.{HeldBook}
-use Rattle.work_columns.proofs.Seam.{accepted}
+use Rattle.work_columns.specs.Seam.{HeldBook, accepted}
 use Rattle.plan_line.specs.declared.Solved as Solving
 use Rattle.plan_line.specs.declared.Solved.{Solved}
 use Rattle.plan_line.specs.Promise.{CanPlanLine, LinePlanned}

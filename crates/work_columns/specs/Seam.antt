@@ -1,14 +1,22 @@
--- The seam between the reader and what works on its book: an accepted book, with its requests lent as one list, and with the numbers that hold it.
--- Assumes nothing.
-use Rattle.std.specs.Prelude.{◌≡◌, List, ℕ}
+-- The seam between the reader and what works on its book: where the reader accepts a file, its reading is a sound book, whose requests are lent as
+-- one list; the limits, and the columns made of that list, hold the book. Assumes nothing.
+use Rattle.std.specs.Prelude.{◌≡◌, refl, List, ℕ, ◌≤◌, length}
+use Rattle.std.proofs.Math.Path.{ap}
+use Rattle.std.proofs.Common.{◌∙◌, arith}
 use Rattle.base_sums.specs.Vacant.{Vacant}
-use Rattle.paper_book.specs.Book.{Book}
-use Rattle.paper_book.specs.Sound.{Sound}
+use Rattle.paper_book.specs.Book as Books
+use Rattle.paper_book.specs.Book.{Book, end_a, end_b, profit}
+use Rattle.paper_book.specs.Reading.{done, reading}
+use Rattle.paper_book.specs.Sound.{Sound, sound}
 use Rattle.paper_book.specs.Columns.{Holds}
 use Rattle.read_record.specs.declared.Network.{Network}
 use Rattle.read_record.specs.declared.Request.{Request}
-use Rattle.read_book.specs.Says.{book_from}
-use Rattle.work_columns.specs.Columned.{CanColumn}
+use Rattle.read_book.specs.declared.Taken.{Taken}
+use Rattle.read_book.specs.declared.Answer.TheVariants.{Accepted}
+use Rattle.read_book.specs.Says.{book_from, Reads}
+use Rattle.read_book.specs.Accepted.{accepted_read, made_count, made_limit, made_request}
+use Rattle.work_columns.specs.declared.RequestColumns.{RequestColumns}
+use Rattle.work_columns.specs.Columned.{Columned, CanColumn}
 
 -- an accepted book, with the numbers that hold it; past the count the ends are 0
 pub record HeldBook (net : Network) (count : ℕ) (limits a b profits : List ℕ) : Type 0 where
@@ -21,7 +29,49 @@ pub record HeldBook (net : Network) (count : ℕ) (limits a b profits : List ℕ
   pub a_end : Vacant 0 count 256 a
   pub b_end : Vacant 0 count 256 b
 
+module _ (net : Network) (limits : List ℕ) (count : ℕ) (requests : List Request) where
+  pub made_holds :
+      {cols : RequestColumns} → count ≤ length requests → Columned requests count cols
+      → Holds (book_from net limits count requests) count limits cols.a cols.b cols.profit
+  unfolding end_a end_b profit
+  made_holds l made = record {
+    counted = made_count net limits count requests l;
+    limit_is = made_limit net limits count requests;
+    a_is = λ i h. made.a_is.is i h ∙ ap (λ (q : Books.Request). q.a) (made_request net limits count requests i h);
+    b_is = λ i h. made.b_is.is i h ∙ ap (λ (q : Books.Request). q.b) (made_request net limits count requests i h);
+    profit_is = λ i h. made.profit_is.is i h ∙ ap (λ (q : Books.Request). q.profit) (made_request net limits count requests i h);
+  }
+
 -- an accepted book whose requests are lent
 pub record LentBook (net : Network) (limits : List ℕ) (requests : List Request) (count : ℕ) : Type 0 where
   pub can : CanColumn requests count
   pub sound : Sound (book_from net limits count requests)
+
+-- the limits, and the columns that are made of the lent requests, hold that book
+abbrev pub lent_held :
+    {net : Network} {limits : List ℕ} {requests : List Request} {count : ℕ} {cols : RequestColumns}
+    → LentBook net limits requests count → Columned requests count cols → HeldBook net count limits cols.a cols.b cols.profit
+unfolding book_from end_a end_b profit
+lent_held {net} {limits} {requests} {count} lent made = record {
+  book = book_from net limits count requests;
+  sound = lent.sound;
+  shape_is = refl;
+  nodes_is = refl;
+  channels_is = refl;
+  holds = record {
+    counted = made_count net limits count requests lent.can.there;
+    limit_is = made_limit net limits count requests;
+    a_is = λ i h. made.a_is.is i h ∙ ap (λ (q : Books.Request). q.a) (made_request net limits count requests i h);
+    b_is = λ i h. made.b_is.is i h ∙ ap (λ (q : Books.Request). q.b) (made_request net limits count requests i h);
+    profit_is = λ i h. made.profit_is.is i h ∙ ap (λ (q : Books.Request). q.profit) (made_request net limits count requests i h);
+  };
+  a_end = made.a_end;
+  b_end = made.b_end;
+}
+
+pub accepted :
+    {file : List ℕ} {taken : Taken} {net : Network} → Reads file taken → taken.answer ≡ Accepted net
+    → LentBook net taken.limits taken.requests taken.count × (reading file ≡ done (book_from net taken.limits taken.count taken.requests))
+accepted {file} {taken} {net} reads e =
+    let read = accepted_read reads e in
+    (record { can = record { few = omega (arith, reads.counted); there = omega (arith, reads.counted, reads.no_more_requests.long) }; sound = sound file _ read }, read)

@@ -1,7 +1,7 @@
 -- `columns` makes columns of the lent list, and `check_held` checks the plan for the book that they hold, which is the lent one. Assumes nothing.
 use mathlib.Core.Path.{refl}
 use Rattle.read_book.specs.Says.{book_from}
-use Rattle.work_columns.proofs.Seam.{made_holds, lent_held}
+use Rattle.work_columns.specs.Seam.{made_holds, lent_held}
 use Rattle.check_plan.proofs.check_lent.Goals as goal
 
 pub check_held-requires : goal.check_held-requires

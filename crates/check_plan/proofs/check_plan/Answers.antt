@@ -1,7 +1,7 @@
 -- `check_plan::check_plan` meets its contract: the reader's refusal is the checker's, and an accepted book is checked with its requests lent. Assumes
 -- nothing.
 use Rattle.read_book.specs.Accepted.{refused_read}
-use Rattle.work_columns.proofs.Seam.{accepted}
+use Rattle.work_columns.specs.Seam.{accepted}
 use Rattle.check_plan.specs.Checked.{checked_of}
 use Rattle.check_plan.specs.WaysOut.{book_refused, book_accepted}
 use Rattle.check_plan.proofs.check_plan.Goals as goal

@@ -1,5 +1,5 @@
 -- `plan_book::plan_book` meets its contract: the reader refuses the file, or its book is planned. Assumes nothing.
-use Rattle.work_columns.proofs.Seam.{accepted}
+use Rattle.work_columns.specs.Seam.{accepted}
 use Rattle.plan_book.specs.Held.{unread, read}
 use Rattle.plan_book.proofs.plan_book.Goals as goal
 

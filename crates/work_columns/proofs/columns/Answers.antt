@@ -1,6 +1,6 @@
 use Rattle.std.proofs.Common.{arith}
 use Rattle.base_sums.specs.Vacant.{vacant_new}
-use Rattle.work_columns.proofs.Columned.{columned_none, columned_more}
+use Rattle.work_columns.specs.Columned.{columned_none, columned_more}
 use Rattle.work_columns.proofs.columns.Goals as goal
 
 pub loop-i-init : goal.loop-i-init

@@ -1,2 +1,0 @@
-pub mod Columned
-pub mod Seam
