@@ -9,20 +9,13 @@ fn main(rt: HostRuntime) -> io::Result<()> {
     let mut input = [0u8; 8192];
     let mut n = 0;
     let mut stdin = rt.stdin();
-    for _ in 0..u64::MAX {
-        if n == 8192 {
+    while n < 8192 {
+        // a read that fails is no end: what was read may be a part of a book, and nothing is written
+        let got = stdin.read(&mut input[n..])?;
+        if got == 0 {
             break;
         }
-        // a read that fails is no end: what was read may be a part of a book, and nothing is written
-        match stdin.read(&mut input[n..]) {
-            Ok(0) => break,
-            Ok(got) => n += got,
-            Err(error) => {
-                if error.kind() != io::ErrorKind::Interrupted {
-                    return Err(error);
-                }
-            }
-        }
+        n += got;
     }
     let mut out = [0u8; 4096];
     let r = page_book::page(&input[..n], &mut out);

@@ -1,24 +1,12 @@
--- `columns` makes columns of the lent list, and `check_held` checks the plan for the book that they hold, which is the lent one. Assumes nothing.
-use mathlib.Core.Path.{refl}
+-- `columns` makes columns of the lent list, and `check_held` checks the plan for the book that they hold. Assumes nothing.
+use Rattle.paper_book.specs.Book.{end_a, end_b, profit}
 use Rattle.read_book.specs.Says.{book_from}
-use Rattle.work_columns.specs.Seam.{made_holds, lent_held}
+use Rattle.work_columns.specs.Seam.{lent_held}
 use Rattle.check_plan.proofs.check_lent.Goals as goal
 
 pub check_held-requires : goal.check_held-requires
 check_held-requires c = lent_held c.requires c.columns-cols.ensures
 
 pub returns : goal.returns
-unfolding book_from
-returns c =
-    let made = c.columns-cols.ensures in
-    c.check_held.ensures
-    (record {
-      book = book_from c.args.network c.args.limits c.args.count c.args.requests.now;
-      sound = c.requires.sound;
-      shape_is = refl;
-      nodes_is = refl;
-      channels_is = refl;
-      holds = made_holds _ _ _ _ c.requires.can.there made;
-      a_end = made.a_end;
-      b_end = made.b_end;
-    })
+unfolding book_from end_a end_b profit
+returns c = c.check_held.ensures (lent_held c.requires c.columns-cols.ensures)
