@@ -48,7 +48,7 @@ pub record LentBook (net : Network) (limits : List ℕ) (requests : List Request
   pub sound : Sound (book_from net limits count requests)
 
 -- the limits, and the columns that are made of the lent requests, hold that book
-abbrev pub lent_held :
+unfoldable pub lent_held :
     {net : Network} {limits : List ℕ} {requests : List Request} {count : ℕ} {cols : RequestColumns}
     → LentBook net limits requests count → Columned requests count cols → HeldBook net count limits cols.a cols.b cols.profit
 unfolding book_from end_a end_b profit
