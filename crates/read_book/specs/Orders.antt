@@ -1,20 +1,18 @@
 -- The request records in turn, in the part of the file that follows the spans: request i stands in record i of the part, and the list takes it.
 -- Assumes nothing.
-use Rattle.std.specs.Prelude.{◌≡◌, true, List, ℕ, ◌+◌, ◌≤◌, ◌<◌, set}
+use Rattle.std.specs.Prelude.{◌≡◌, Result, Ok, Err, List, ℕ, ◌+◌, ◌≤◌, ◌<◌, set}
 use Rattle.std.proofs.Common.{sym, ap, ◌∙◌, arith}
 use borrow.Author.Tests.{ltb-false, eqb-true, not-false}
 use Rattle.paper_book.specs.Refusals.{records, number_in, a_in, b_in, profit_in}
-use Rattle.read_record.specs.declared.Network.{Network}
+use Rattle.read_record.specs.declared.Refusal.{Refusal}
 use Rattle.read_record.specs.declared.Request.{Request}
-use Rattle.read_record.specs.declared.Reading.{Reading}
-use Rattle.read_record.specs.declared.Reading.TheVariants.{Got}
 use Rattle.read_record.specs.declared.Record.{Record}
 use Rattle.read_record.specs.declared.Record.TheVariants as kind
 use Rattle.read_record.specs.Tests.{first_passed, rest_passed}
 use Rattle.read_record.specs.Records.{request_in, request_row, request_record_at, answer_got}
 use Rattle.read_book.specs.declared.requests.Orders.{Orders}
 use Rattle.read_book.specs.Says.{no_request}
-use Rattle.read_book.specs.Series.{Series, SoFar, InList, is_got, accepted, so_far_more}
+use Rattle.read_book.specs.Series.{Series, SoFar, Stopped, is_got, so_far_more}
 
 -- request i as record i of the part says it, with its own number
 abbrev pub request_read : List ℕ → ℕ → Request
@@ -24,13 +22,18 @@ abbrev pub request_series : List ℕ → (before nodes : ℕ) → Series Request
 request_series part before nodes =
     record { says = λ i. request_record_at part i before nodes; room = 256; empty = no_request; wants = request_read part }
 
-pub record OrdersRead (part : List ℕ) (before : ℕ) (network : Network) (read : Orders) : Type 0 where
-  pub within : read.count ≤ 256
-  pub all : accepted read.answer ≡ true → read.count ≡ records part
-  pub in_list : InList (request_series part before network.nodes) (records part) network read.answer read.requests
+-- every record of the part is a request, and the list has them
+pub record OrdersTaken (part : List ℕ) (before nodes : ℕ) (orders : Orders) : Type 0 where
+  pub within : orders.count ≤ 256
+  pub all : orders.count ≡ records part
+  pub in_list : SoFar (request_series part before nodes) orders.requests (records part)
+
+abbrev pub OrdersRead : List ℕ → (before nodes : ℕ) → Result Orders Refusal → Type 0
+OrdersRead part before nodes (Ok orders) = OrdersTaken part before nodes orders
+OrdersRead part before nodes (Err refusal) = Stopped (request_series part before nodes).says (records part) refusal
 
 -- what is got where a request is due is that request, and it is one of 256
-module _ (part : List ℕ) (before nodes i : ℕ) (r : Reading) (got : Record) (is : r ≡ request_record_at part i before nodes) (e : r ≡ Got got) where
+module _ (part : List ℕ) (before nodes i : ℕ) (r : Result Record Refusal) (got : Record) (is : r ≡ request_record_at part i before nodes) (e : r ≡ Ok got) where
   pub got_request : got ≡ kind.Request (request_in part i)
   unfolding request_record_at
   got_request = (answer_got (request_row part i nodes) (before + i) _ got (sym is ∙ e)).1

@@ -1,5 +1,5 @@
--- What the reader's answers mean: for every case of its enums the numbers and values of document 01. Assumes nothing.
-use Rattle.std.specs.Prelude.{◌≡◌, List, map, ℕ, ◌≤◌, ◌<◌, get_or, take, replicate}
+-- What the reader's answers mean: for both of its cases the numbers and values of document 01. Assumes nothing.
+use Rattle.std.specs.Prelude.{◌≡◌, Result, Ok, Err, List, map, ℕ, ◌≤◌, ◌<◌, get_or, take}
 use Rattle.base_sums.specs.Vacant.{Vacant}
 use Rattle.paper_book.specs.Book as B
 use Rattle.paper_book.specs.Reading.{Outcome, done, refused, reading}
@@ -7,8 +7,6 @@ use Rattle.read_record.specs.declared.Network.{Network}
 use Rattle.read_record.specs.declared.Refusal.{Refusal}
 use Rattle.read_record.specs.declared.Request.{Request}
 use Rattle.read_book.specs.declared.Taken.{Taken}
-use Rattle.read_book.specs.declared.Answer.{Answer}
-use Rattle.read_book.specs.declared.Answer.TheVariants.{Accepted, Refused}
 
 -- a request as the book has it
 abbrev pub plain : Request → B.Request
@@ -29,28 +27,20 @@ book_from net limits count requests =
       requests = map plain (take count requests);
     }
 
-unfoldable pub outcome_of : Answer → List ℕ → ℕ → List Request → Outcome B.Book
-outcome_of (Accepted net) limits count requests = done (book_from net limits count requests)
-outcome_of (Refused refusal) limits count requests = refused refusal.number refusal.place
+unfoldable pub outcome_of : Result Taken Refusal → Outcome B.Book
+outcome_of (Ok taken) = done (book_from taken.network taken.limits taken.count taken.requests)
+outcome_of (Err refusal) = refused refusal.number refusal.place
 
--- nothing stands beside the answer: no limit but 0, no request
-pub record NothingBeside (taken : Taken) : Type 0 where
-  pub no_limits : taken.limits ≡ replicate 64 0
-  pub no_count : taken.count ≡ 0
-  pub no_requests : taken.requests ≡ replicate 256 no_request
-
--- the reader's promise: its answer is the reading of document 01, and of a refused book nothing is handed on. It leaves no value open (`taken_once`).
-pub record Reads (file : List ℕ) (taken : Taken) : Type 0 where
-  pub says : outcome_of taken.answer taken.limits taken.count taken.requests ≡ reading file
-  pub refusing : (refusal : Refusal) → taken.answer ≡ Refused refusal → NothingBeside taken
+-- what is handed on of an accepted book beside what it says
+pub record Whole (taken : Taken) : Type 0 where
   pub counted : taken.count ≤ 256
   -- each request has its own number
   pub numbered : (i : ℕ) → i < taken.count → (get_or taken.requests i no_request).number ≡ i
-  -- and past the requests, and past an accepted network's limits, there is nothing
+  -- and past the requests, and past the network's limits, there is nothing
   pub no_more_requests : Vacant no_request taken.count 256 taken.requests
-  pub no_more_limits : (network : Network) → taken.answer ≡ Accepted network → Vacant 0 (B.spans_of network.shape network.nodes) 64 taken.limits
+  pub no_more_limits : Vacant 0 (B.spans_of taken.network.shape taken.network.nodes) 64 taken.limits
 
--- nothing was read, and this is why
-pub record Unread (answer : Answer) (taken : Taken) : Type 0 where
-  pub because : taken.answer ≡ answer
-  pub nothing : NothingBeside taken
+-- the reader's promise: its answer is the reading of document 01. It leaves no value open (`taken_once`).
+pub record Reads (file : List ℕ) (read : Result Taken Refusal) : Type 0 where
+  pub says : outcome_of read ≡ reading file
+  pub whole : (taken : Taken) → read ≡ Ok taken → Whole taken

@@ -1,6 +1,6 @@
 -- The ways out of reading a book. A refused record is the first faulty one, since every record before it was got; where all were got, no record
 -- that is looked at is faulty. Assumes nothing.
-use Rattle.std.specs.Prelude.{◌≡◌, true, List, ℕ, ◌+◌, ◌-◌, ◌≤◌, ◌<◌, length, drop, ltb}
+use Rattle.std.specs.Prelude.{◌≡◌, Result, Ok, Err, true, List, ℕ, ◌+◌, ◌-◌, ◌≤◌, ◌<◌, length, drop, ltb}
 use Rattle.std.proofs.Common.{ap, subst, ◌∙◌}
 use Rattle.std.proofs.Math.Logic.{inl, ⊎_elim}
 use native.Mathlib.Omega.{arith}
@@ -12,8 +12,6 @@ use Rattle.paper_book.specs.Means.{not_so}
 use Rattle.paper_book.specs.InWords.{Row5, row_5, NodesInRange, nodes_in_range}
 use Rattle.paper_book.specs.Sound.{spans_least, spans_small}
 use Rattle.read_record.specs.declared.Refusal.{Refusal}
-use Rattle.read_record.specs.declared.Reading.{Reading}
-use Rattle.read_record.specs.declared.Reading.TheVariants.{Got, Refused}
 use Rattle.read_record.specs.declared.Record.{Record}
 use Rattle.read_record.specs.declared.Record.TheVariants as kind
 use Rattle.read_record.specs.Parts.{records_part}
@@ -26,7 +24,7 @@ use Rattle.read_book.specs.Orders.{request_series}
 -- ---- one record
 
 module _ (f : List ℕ) (row r : ℕ) (got : Record) (is : row ≡ fault f r) where
-  refused_at : (refusal : Refusal) → r < due f → Clean f r → answer row r got ≡ Refused refusal → reading f ≡ refused refusal.number refusal.place
+  refused_at : (refusal : Refusal) → r < due f → Clean f r → answer row r got ≡ Err refusal → reading f ≡ refused refusal.number refusal.place
   refused_at refusal h clean e =
       let w = answer_refused row r got refusal e in
       first_fault f r h (omega (arith, w.0)) clean ∙ rw (w.1, w.2, is)
@@ -41,11 +39,11 @@ clean_on f b n before on q h = ⊎_elim (before q) (λ l. subst (λ (r : ℕ). U
 
 -- ---- the network
 
-pub network_refused : (f : List ℕ) (refusal : Refusal) → network_record_at f ≡ Refused refusal → reading f ≡ refused refusal.number refusal.place
+pub network_refused : (f : List ℕ) (refusal : Refusal) → network_record_at f ≡ Err refusal → reading f ≡ refused refusal.number refusal.place
 unfolding network_record_at
 network_refused f refusal e = refused_at f (network_row f) 0 _ (network_row_lem f) refusal (span_looked_at f 0 (omega arith)) (λ q h. absurd (omega arith)) e
 
-pub got_network : (f : List ℕ) (got : Record) → network_record_at f ≡ Got got → got ≡ kind.Network (network_in f)
+pub got_network : (f : List ℕ) (got : Record) → network_record_at f ≡ Ok got → got ≡ kind.Network (network_in f)
 unfolding network_record_at
 got_network f got e = (answer_got (network_row f) 0 _ got e).1
 
@@ -55,7 +53,7 @@ pub record Headed (f : List ℕ) : Type 0 where
   pub least : 1 ≤ spans_in f
   pub most : spans_in f ≤ 64
 
-pub headed : (f : List ℕ) (got : Record) → network_record_at f ≡ Got got → Headed f
+pub headed : (f : List ℕ) (got : Record) → network_record_at f ≡ Ok got → Headed f
 unfolding network_record_at spans_in
 headed f got e =
     record {
@@ -72,14 +70,14 @@ headed f got e =
 
 -- ---- the spans
 
-abbrev pub span_says : List ℕ → ℕ → Reading
+abbrev pub span_says : List ℕ → ℕ → Result Record Refusal
 span_says f = (span_series f (channels_in f)).says
 
 -- the part of the file that follows the span records
 abbrev pub after_spans : List ℕ → List ℕ
 after_spans f = drop (start (1 + spans_in f)) f
 
-abbrev pub request_says : List ℕ → ℕ → Reading
+abbrev pub request_says : List ℕ → ℕ → Result Record Refusal
 request_says f = (request_series (after_spans f) (1 + spans_in f) (nodes_in f)).says
 
 module _ (f : List ℕ) (h : Headed f) where

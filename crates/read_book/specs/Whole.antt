@@ -3,32 +3,26 @@
 use Rattle.std.proofs.Math.Path.{◌≡◌, sym, ap, subst}
 use Rattle.std.proofs.Common.{ap₂, ◌∙◌, arith, get_or-take, ext_get_or, length-take-le}
 use mathlib.Core.List.{List, map, map-id}
-use Rattle.std.specs.Prelude.{ℕ, ◌+◌, ◌-◌, ◌*◌, ◌≤◌, ◌<◌, length, get_or, take, drop}
+use Rattle.std.specs.Prelude.{Result, Ok, Err, ℕ, ◌+◌, ◌-◌, ◌*◌, ◌≤◌, ◌<◌, length, get_or, take, drop}
 use Rattle.std.proofs.lemmas.List.{length-map}
 use Rattle.std.proofs.Math.ListN.{get_or-map}
 use Rattle.base_sums.specs.Table.{table, length_table, table_at}
-use Rattle.base_sums.specs.Vacant.{Vacant, vacant_new}
 use Rattle.paper_book.specs.Book as B
 use Rattle.paper_book.specs.Refusals.{start, records, shape_in, nodes_in, channels_in, spans_in, limit_in}
 use Rattle.paper_book.specs.Reading.{done, refused, request_of, book_of, reading}
 use Rattle.read_record.specs.declared.Network.{Network}
 use Rattle.read_record.specs.declared.Refusal.{Refusal}
 use Rattle.read_record.specs.declared.Request.{Request}
-use Rattle.read_record.specs.declared.Reading.{Reading}
-use Rattle.read_record.specs.declared.Reading.TheVariants.{Got}
 use Rattle.read_record.specs.declared.Record.{Record}
 use Rattle.read_record.specs.declared.Record.TheVariants as kind
 use Rattle.read_record.specs.Parts.{a_part, b_part, profit_part, records_part, part_is}
 use Rattle.read_record.specs.Records.{network_in, network_record_at}
-use Rattle.read_book.specs.declared.Answer.{Answer}
-use Rattle.read_book.specs.declared.Answer.TheVariants.{Accepted, Refused}
 use Rattle.read_book.specs.declared.Taken.{Taken}
-use Rattle.read_book.specs.declared.spans.Limits.{Limits}
 use Rattle.read_book.specs.declared.requests.Orders.{Orders}
-use Rattle.read_book.specs.Says.{Reads, Unread, no_request, plain, book_from, outcome_of}
-use Rattle.read_book.specs.Series.{AllGot, InTurn, AllMeant, accepted}
+use Rattle.read_book.specs.Says.{Reads, Whole, no_request, plain, book_from, outcome_of}
+use Rattle.read_book.specs.Series.{AllGot, AllMeant}
 use Rattle.read_book.specs.Spans.{SpansRead, span_series}
-use Rattle.read_book.specs.Orders.{OrdersRead, request_read, request_series}
+use Rattle.read_book.specs.Orders.{OrdersRead, OrdersTaken, request_read, request_series}
 use Rattle.read_book.specs.WaysOut.{Headed, headed, got_network, span_says, request_says, part_there, after_spans, spans_refused, requests_refused, all_clean}
 
 -- ---- the lists
@@ -83,19 +77,12 @@ book_is f limits requests hl pl hr pr =
 -- ---- the ways out
 
 -- a refusal
-pub not_read :
-    (f : List ℕ) (answer : Answer) (taken : Taken) (refusal : Refusal)
-    → Unread answer taken → answer ≡ Refused refusal → reading f ≡ refused refusal.number refusal.place → Reads f taken
+pub not_read : (f : List ℕ) (refusal : Refusal) → reading f ≡ refused refusal.number refusal.place → Reads f (Err refusal)
 unfolding outcome_of
-not_read f answer taken refusal u e r =
-    record {
-      says = rw (u.because, e) (sym r);
-      refusing = λ _ _. u.nothing;
-      counted = omega (arith, u.nothing.no_count);
-      numbered = λ i h. absurd (omega (arith, u.nothing.no_count));
-      no_more_requests = rw u.nothing.no_requests (vacant_new no_request taken.count 256);
-      no_more_limits = λ network _. rw u.nothing.no_limits (vacant_new 0 (B.spans_of network.shape network.nodes) 64);
-    }
+not_read f refusal r = record { says = sym r; whole = λ taken e. absurd (no_book e) }
+  where
+    no_book : {taken : Taken} → ◌≡◌ {A = Result Taken Refusal} (Err refusal) (Ok taken) → ⊥
+    no_book e = let z : ◌≡◌ {A = ℕ} 0 1 = cc in absurd (omega arith)
 
 -- the network was got, and has n spans
 pub record Begun (f : List ℕ) (network : Network) (n : ℕ) : Type 0 where
@@ -104,68 +91,69 @@ pub record Begun (f : List ℕ) (network : Network) (n : ℕ) : Type 0 where
   pub n_is : n ≡ spans_in f
 
 pub begun :
-    (f : List ℕ) (r : Reading) (got : Record) (network : Network) (n : ℕ)
-    → r ≡ network_record_at f → r ≡ Got got → got ≡ kind.Network network → n ≡ B.spans_of network.shape network.nodes → Begun f network n
+    (f : List ℕ) (r : Result Record Refusal) (got : Record) (network : Network) (n : ℕ)
+    → r ≡ network_record_at f → r ≡ Ok got → got ≡ kind.Network network → n ≡ B.spans_of network.shape network.nodes → Begun f network n
 unfolding spans_in
 begun f r got network n at e k n-of = record { head = headed f got (sym at ∙ e); is = is; n_is = n-of ∙ ap (λ (t : Network). B.spans_of t.shape t.nodes) is }
   where
     is : network ≡ network_in f
     is = cc (got_network f got (sym at ∙ e))
 
-module _ (f : List ℕ) (network : Network) (n : ℕ) (so_far : Begun f network n) (limits : Limits) (read : SpansRead f network n limits) where
+module _ (f : List ℕ) (network : Network) (n : ℕ) (so_far : Begun f network n) (limits : Result (List ℕ) Refusal) (read : SpansRead f network.channels n limits) where
   open so_far use {head, is, n_is}
 
   -- the spans, read for the network that the file has
-  spans_read : SpansRead f (network_in f) (spans_in f) limits
-  spans_read = subst (λ (m : ℕ). SpansRead f (network_in f) m limits) n_is (subst (λ (net : Network). SpansRead f net n limits) is read)
+  spans_read : SpansRead f (channels_in f) (spans_in f) limits
+  spans_read = subst (λ (m : ℕ). SpansRead f (channels_in f) m limits) n_is (subst (λ (net : Network). SpansRead f net.channels n limits) is read)
 
-  pub refused_in_spans : (refusal : Refusal) → limits.answer ≡ Refused refusal → reading f ≡ refused refusal.number refusal.place
-  refused_in_spans refusal e = spans_refused f head refusal (rw e at spans_read.turn)
+  pub refused_in_spans : (refusal : Refusal) → limits ≡ Err refusal → reading f ≡ refused refusal.number refusal.place
+  refused_in_spans refusal e = spans_refused f head refusal (rw e at spans_read)
 
-  module _ (net : Network) (e : limits.answer ≡ Accepted net) where
-    all_spans : AllGot (span_says f) (spans_in f)
-    all_spans = (rw e at spans_read.turn).1
+  module _ (list : List ℕ) (e : limits ≡ Ok list) where
+    spans_got : SpansRead f (channels_in f) (spans_in f) (Ok list)
+    spans_got = rw e at spans_read
 
     pub part_starts : 16 * (1 + n) ≤ length f
     unfolding start
-    part_starts = omega (arith, part_there f head all_spans)
+    part_starts = omega (arith, part_there f head spans_got.got)
 
-    module _ (orders : Orders) (o : OrdersRead (take (length f - 16 * (1 + n)) (drop (16 * (1 + n)) f)) (1 + n) network orders) where
+    module _ (orders : Result Orders Refusal) (o : OrdersRead (take (length f - 16 * (1 + n)) (drop (16 * (1 + n)) f)) (1 + n) network.nodes orders) where
       -- the requests, read in the part that follows the spans, for the network that the file has
-      requests_read : OrdersRead (after_spans f) (1 + spans_in f) (network_in f) orders
+      requests_read : OrdersRead (after_spans f) (1 + spans_in f) (nodes_in f) orders
       unfolding start
       requests_read =
-          subst (λ (m : ℕ). OrdersRead (drop (start (1 + m)) f) (1 + m) (network_in f) orders) n_is
-          (subst (λ (t : Network). OrdersRead (drop (start (1 + n)) f) (1 + n) t orders) is
-          (subst (λ (p : List ℕ). OrdersRead p (1 + n) network orders) (part_is f (16 * (1 + n))) o))
+          subst (λ (m : ℕ). OrdersRead (drop (start (1 + m)) f) (1 + m) (nodes_in f) orders) n_is
+          (subst (λ (t : Network). OrdersRead (drop (start (1 + n)) f) (1 + n) t.nodes orders) is
+          (subst (λ (p : List ℕ). OrdersRead p (1 + n) network.nodes orders) (part_is f (16 * (1 + n))) o))
 
-      pub refused_in_requests : (refusal : Refusal) → orders.answer ≡ Refused refusal → reading f ≡ refused refusal.number refusal.place
-      refused_in_requests refusal r = requests_refused f head all_spans refusal (rw r at requests_read.in_list.turn)
+      pub refused_in_requests : (refusal : Refusal) → orders ≡ Err refusal → reading f ≡ refused refusal.number refusal.place
+      refused_in_requests refusal r = requests_refused f head spans_got.got refusal (rw r at requests_read)
 
-      pub book_read : (t : Network) → orders.answer ≡ Accepted t → Reads f (record { answer = orders.answer; limits = limits.limits; count = orders.count; requests = orders.requests })
+      pub book_read : (taken : Orders) → orders ≡ Ok taken → Reads f (Ok (record { network = network; limits = list; count = taken.count; requests = taken.requests }))
       unfolding outcome_of spans_in
-      book_read t a =
+      book_read taken a =
           record {
             says =
-                rw (a, turn.0, all)
+                rw (is, all)
                 (ap done
-                (book_is f limits.limits orders.requests (omega (arith, head.most, limits_end.long)) (spans_read.filled (ap accepted e)) (omega (arith, all, o.within, requests_end.long)) (requests_read.in_list.filled (ap accepted a)))
-                ∙ sym (all_clean f head all_spans turn.1));
-            refusing = λ refusal r. let z : ◌≡◌ {A = ℕ} 0 1 = cc in absurd (omega arith);
-            counted = o.within;
-            numbered = λ i h. ap (λ (q : Request). q.number) ((requests_read.in_list.filled (ap accepted a)).is i (omega (arith, all)));
-            no_more_requests = requests_end;
-            no_more_limits = λ t' a'. let same : t' ≡ network_in f = cc turn.0 in rw same limits_end;
+                (book_is f list taken.requests (omega (arith, head.most, spans_got.no_more.long)) spans_got.filled (omega (arith, all, got.within, got.in_list.no_more.long)) got.in_list.filled)
+                ∙ sym (all_clean f head spans_got.got got.in_list.got));
+            whole = λ made same. subst Whole (only same) whole;
           }
         where
-          turn : InTurn (request_says f) (records (after_spans f)) (network_in f) (Accepted t)
-          turn = rw a at requests_read.in_list.turn
+          got : OrdersTaken (after_spans f) (1 + spans_in f) (nodes_in f) taken
+          got = rw a at requests_read
 
-          all : orders.count ≡ records (after_spans f)
-          all = requests_read.all (ap accepted a)
+          all : taken.count ≡ records (after_spans f)
+          all = got.all
 
-          requests_end : Vacant no_request orders.count 256 orders.requests
-          requests_end = rw all (requests_read.in_list.no_more (ap accepted a))
+          whole : Whole (record { network = network; limits = list; count = taken.count; requests = taken.requests })
+          whole = record {
+            counted = got.within;
+            numbered = λ i h. ap (λ (q : Request). q.number) (got.in_list.filled.is i (omega (arith, all)));
+            no_more_requests = rw all got.in_list.no_more;
+            no_more_limits = rw is spans_got.no_more;
+          }
 
-          limits_end : Vacant 0 (spans_in f) 64 limits.limits
-          limits_end = spans_read.no_more (ap accepted e)
+          only : {made : Taken} → ◌≡◌ {A = Result Taken Refusal} (Ok (record { network = network; limits = list; count = taken.count; requests = taken.requests })) (Ok made) → record { network = network; limits = list; count = taken.count; requests = taken.requests } ≡ made
+          only same = cc

@@ -12,27 +12,27 @@ pub mod shapes;
 pub mod view;
 
 // A refusal: its number in the table of document 01, and its place.
-#[derive(Clone, Copy)]
+#[derive(Clone, Copy, Debug, PartialEq, Eq)]
 pub struct Refusal {
     pub number: usize,
     pub place: usize,
 }
 
 // The fields of the three kinds of record.
-#[derive(Clone, Copy)]
+#[derive(Clone, Copy, Debug, PartialEq, Eq)]
 pub struct Network {
     pub shape: usize,
     pub nodes: usize,
     pub channels: usize,
 }
 
-#[derive(Clone, Copy)]
+#[derive(Clone, Copy, Debug, PartialEq, Eq)]
 pub struct Span {
     pub number: usize,
     pub limit: usize,
 }
 
-#[derive(Clone, Copy)]
+#[derive(Clone, Copy, Debug, PartialEq, Eq)]
 pub struct Request {
     pub number: usize,
     pub a: usize,
@@ -41,18 +41,11 @@ pub struct Request {
 }
 
 // A record is a network, a span or a request, and nothing else.
-#[derive(Clone, Copy)]
+#[derive(Clone, Copy, Debug, PartialEq, Eq)]
 pub enum Record {
     Network(Network),
     Span(Span),
     Request(Request),
-}
-
-// What reading one record comes to.
-#[derive(Clone, Copy)]
-pub enum Reading {
-    Got(Record),
-    Refused(Refusal),
 }
 
 // What is due at a record, with what it has to agree with; `before` records stand before the part that the requests are read from.
@@ -85,21 +78,21 @@ fn head_at(file: &[u8], at: usize) -> Head
 }
 
 // A record that breaks a row is refused at its place.
-fn answer(row: usize, place: usize, got: Record) -> Reading
+fn answer(row: usize, place: usize, got: Record) -> Result<Record, Refusal>
     ensures { result ≡ R.answer row place got }
 {
     if row < 12 {
-        return Reading::Refused(Refusal { number: row, place });
+        return Err(Refusal { number: row, place });
     }
-    Reading::Got(got)
+    Ok(got)
 }
 
 // The network, record 0, with the byte count, which is tested first.
-fn network_at(file: &[u8]) -> Reading
+fn network_at(file: &[u8]) -> Result<Record, Refusal>
     ensures { result ≡ R.network_record_at file.now }
 {
     if judge::count_wrong(file.len()) {
-        return Reading::Refused(Refusal {
+        return Err(Refusal {
             number: 1,
             place: 0,
         });
@@ -116,12 +109,12 @@ fn network_at(file: &[u8]) -> Reading
 }
 
 // The span due at a record index, which may be missing.
-fn span_at(file: &[u8], index: usize, channels: usize) -> Reading
+fn span_at(file: &[u8], index: usize, channels: usize) -> Result<Record, Refusal>
     requires { (0 < index) × (index ≤ 64) }
     ensures { result ≡ R.span_record_at file.now index channels }
 {
     if file.len() / 16 <= index {
-        return Reading::Refused(Refusal {
+        return Err(Refusal {
             number: 5,
             place: index,
         });
@@ -138,7 +131,7 @@ fn span_at(file: &[u8], index: usize, channels: usize) -> Reading
 }
 
 // Request i of the part of the file that follows the spans; `before` records stand before the part.
-fn request_at(part: &[u8], i: usize, before: usize, nodes: usize) -> Reading
+fn request_at(part: &[u8], i: usize, before: usize, nodes: usize) -> Result<Record, Refusal>
     requires { (16 * i + 16 ≤ length part.now) × (before ≤ 65) }
     ensures { result ≡ R.request_record_at part.now i before nodes }
 {
@@ -156,7 +149,7 @@ fn request_at(part: &[u8], i: usize, before: usize, nodes: usize) -> Reading
 }
 
 // The record at a position of a slice, as what is due there.
-fn record_at(src: &[u8], at: usize, due: Due) -> Reading
+fn record_at(src: &[u8], at: usize, due: Due) -> Result<Record, Refusal>
     requires { MayStand src.now at due }
     ensures { result ≡ record_at src.now at due }
 {
@@ -164,18 +157,5 @@ fn record_at(src: &[u8], at: usize, due: Due) -> Reading
         Due::Network => network_at(src),
         Due::Span { channels } => span_at(src, at, channels),
         Due::Request { before, nodes } => request_at(src, at, before, nodes),
-    }
-}
-
-// The refusal that a reading is.
-pub fn refusal_of(reading: Reading) -> Refusal
-    ensures { result ≡ R.refusal_of reading }
-{
-    match reading {
-        Reading::Refused(refusal) => refusal,
-        Reading::Got(_) => Refusal {
-            number: 0,
-            place: 0,
-        },
     }
 }

@@ -2,7 +2,7 @@
 ghost use Rattle.std.specs.Prelude.{◌≡◌};
 ghost use Rattle.read_record.specs.Due.{MayStand, record_at};
 
-use crate::{Due, Reading};
+use crate::{Due, Record, Refusal};
 
 // `at` records of the slice have been read, so it is the index of the next one.
 #[derive(Clone, Copy)]
@@ -19,7 +19,7 @@ pub fn view_from<'a>(src: &'a [u8], at: usize) -> View<'a>
 }
 
 // The next record, as what is due there.
-pub fn next<'a>(view: View<'a>, due: Due) -> Reading
+pub fn next<'a>(view: View<'a>, due: Due) -> Result<Record, Refusal>
     requires { MayStand view.src.now view.at due }
     ensures { result ≡ record_at view.entry.src.now view.entry.at due }
 {
@@ -27,7 +27,7 @@ pub fn next<'a>(view: View<'a>, due: Due) -> Reading
 }
 
 // The record at a position, read through a view that is made for it: what the reading loops call (docs/DECISIONS.md says why no loop keeps one).
-pub fn through_view(src: &[u8], at: usize, due: Due) -> Reading
+pub fn through_view(src: &[u8], at: usize, due: Due) -> Result<Record, Refusal>
     requires { MayStand src.now at due }
     ensures { result ≡ record_at src.now at due }
 {
