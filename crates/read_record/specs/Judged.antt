@@ -9,6 +9,7 @@ use Rattle.paper_book.specs.InWords.{CountWrong, count_wrong_lem}
 use Rattle.read_record.specs.declared.Network.{Network}
 use Rattle.read_record.specs.declared.Span.{Span}
 use Rattle.read_record.specs.declared.Request.{Request}
+use Rattle.read_record.specs.declared.Row.TheVariants as row
 use Rattle.read_record.specs.Tests.{Test, ◌⇒◌, found, passed, none}
 
 -- a right byte count is that of one record or more
@@ -24,38 +25,38 @@ one_record bytes e = not_above (λ h. right (few h))
 -- the network, whose byte count was right
 abbrev pub network_tests : (kind : ℕ) → Network → Bool → List Test
 network_tests kind network rest =
-    (not (eqb kind 1) ⇒ 2)
-    ∷ (not (known network.shape) ⇒ 2)
-    ∷ (not rest ⇒ 2)
-    ∷ (ltb network.nodes (fewest network.shape) ⇒ 3)
-    ∷ (ltb 64 network.nodes ⇒ 3)
-    ∷ (eqb network.channels 0 ⇒ 4)
-    ∷ (ltb 96 network.channels ⇒ 4)
+    (not (eqb kind 1) ⇒ row.Network)
+    ∷ (not (known network.shape) ⇒ row.Network)
+    ∷ (not rest ⇒ row.Network)
+    ∷ (ltb network.nodes (fewest network.shape) ⇒ row.Nodes)
+    ∷ (ltb 64 network.nodes ⇒ row.Nodes)
+    ∷ (eqb network.channels 0 ⇒ row.Channels)
+    ∷ (ltb 96 network.channels ⇒ row.Channels)
     ∷ []
 
 -- the span numbered `due` of a network of so many channels
 abbrev pub span_tests : (due channels kind mark : ℕ) → Span → Bool → List Test
 span_tests due channels kind mark span rest =
-    (not (eqb kind 2) ⇒ 5)
-    ∷ (not (eqb span.number due) ⇒ 5)
-    ∷ (not rest ⇒ 5)
-    ∷ (not (eqb mark 1) ⇒ 6)
-    ∷ (ltb channels span.limit ⇒ 7)
+    (not (eqb kind 2) ⇒ row.Span)
+    ∷ (not (eqb span.number due) ⇒ row.Span)
+    ∷ (not rest ⇒ row.Span)
+    ∷ (not (eqb mark 1) ⇒ row.Mark)
+    ∷ (ltb channels span.limit ⇒ row.Limit)
     ∷ []
 
 -- the request numbered `due` of a network of so many nodes
 abbrev pub request_tests : (due nodes kind mark : ℕ) → Request → Bool → List Test
 request_tests due nodes kind mark q rest =
-    (ltb 255 due ⇒ 8)
-    ∷ (not (eqb kind 3) ⇒ 9)
-    ∷ (not (eqb mark 0) ⇒ 9)
-    ∷ (not (eqb q.number due) ⇒ 9)
-    ∷ (not rest ⇒ 9)
-    ∷ (not (ltb q.a nodes) ⇒ 10)
-    ∷ (not (ltb q.b nodes) ⇒ 10)
-    ∷ (eqb q.a q.b ⇒ 10)
-    ∷ (eqb q.profit 0 ⇒ 11)
-    ∷ (ltb 1000000 q.profit ⇒ 11)
+    (ltb 255 due ⇒ row.TooMany)
+    ∷ (not (eqb kind 3) ⇒ row.Request)
+    ∷ (not (eqb mark 0) ⇒ row.Request)
+    ∷ (not (eqb q.number due) ⇒ row.Request)
+    ∷ (not rest ⇒ row.Request)
+    ∷ (not (ltb q.a nodes) ⇒ row.Ends)
+    ∷ (not (ltb q.b nodes) ⇒ row.Ends)
+    ∷ (eqb q.a q.b ⇒ row.Ends)
+    ∷ (eqb q.profit 0 ⇒ row.Profit)
+    ∷ (ltb 1000000 q.profit ⇒ row.Profit)
     ∷ []
 
 -- ---- from what the code's tests say to the flags above: what `search` is handed where a judge returns

@@ -1,4 +1,5 @@
 pub mod Blank
+pub mod Numbers
 pub mod Tests
 pub mod Judged
 pub mod Records

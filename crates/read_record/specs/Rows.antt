@@ -6,10 +6,11 @@ use Rattle.std.proofs.lemmas.Bool.{lt-leb}
 use Rattle.base_sums.specs.Each.{seek, first, less_or_not}
 use Rattle.paper_book.specs.Bytes.{blank}
 use Rattle.paper_book.specs.Refusals.{start, present, kind_in, mark_in, nodes_in, channels_in, spans_in, a_in, profit_in, known, fewest, count_wrong, network_wrong, nodes_wrong, channels_wrong, span_wrong, mark_wrong, limit_wrong, too_many, request_wrong, ends_wrong, profit_wrong, network_due, span_due, request_due, by_kind, rows, fault}
+use Rattle.read_record.specs.declared.Row.TheVariants as row
 use Rattle.read_record.specs.Tests.{◌⇒◌, lowest, joined, joined₃, joined₄, behind}
 use Rattle.read_record.specs.Judged.{request_tests}
 use Rattle.read_record.specs.Parts.{kind_part, mark_part, number_part, a_part, b_part, profit_part, rest_part}
-use Rattle.read_record.specs.Records.{request_in, network_row, span_row, request_row}
+use Rattle.read_record.specs.Records.{request_in, tests_of_network, tests_of_span, tests_of_request, network_row, span_row, request_row}
 
 -- ---- the rows of each kind of record
 
@@ -21,39 +22,39 @@ fault_by : (f : List ℕ) (r : ℕ) → fault f r ≡ row_by (network_due f r) (
 unfolding fault rows row_by
 fault_by f r = refl
 
-network_rows : (f : List ℕ) → row_by true false false f 0 ≡ lowest ((count_wrong (length f) ⇒ 1) ∷ (network_wrong f ⇒ 2) ∷ (nodes_wrong f ⇒ 3) ∷ (channels_wrong f ⇒ 4) ∷ [])
+network_rows : (f : List ℕ) → row_by true false false f 0 ≡ lowest ((count_wrong (length f) ⇒ row.ByteCount) ∷ (network_wrong f ⇒ row.Network) ∷ (nodes_wrong f ⇒ row.Nodes) ∷ (channels_wrong f ⇒ row.Channels) ∷ [])
 unfolding row_by seek lowest
 network_rows f = refl
 
-network_fault : (f : List ℕ) → fault f 0 ≡ lowest ((count_wrong (length f) ⇒ 1) ∷ (network_wrong f ⇒ 2) ∷ (nodes_wrong f ⇒ 3) ∷ (channels_wrong f ⇒ 4) ∷ [])
+network_fault : (f : List ℕ) → fault f 0 ≡ lowest ((count_wrong (length f) ⇒ row.ByteCount) ∷ (network_wrong f ⇒ row.Network) ∷ (nodes_wrong f ⇒ row.Nodes) ∷ (channels_wrong f ⇒ row.Channels) ∷ [])
 network_fault f = fault_by f 0 ∙ rw (le-ltb (spans_in f) 0 (omega arith)) (network_rows f)
 
-span_rows : (f : List ℕ) (r : ℕ) → row_by false true false f r ≡ lowest ((span_wrong f r ⇒ 5) ∷ (mark_wrong f r ⇒ 6) ∷ (limit_wrong f r ⇒ 7) ∷ [])
+span_rows : (f : List ℕ) (r : ℕ) → row_by false true false f r ≡ lowest ((span_wrong f r ⇒ row.Span) ∷ (mark_wrong f r ⇒ row.Mark) ∷ (limit_wrong f r ⇒ row.Limit) ∷ [])
 unfolding row_by seek lowest
 span_rows f r = refl
 
-span_fault : (f : List ℕ) (r : ℕ) → 0 < r → r ≤ spans_in f → fault f r ≡ lowest ((span_wrong f r ⇒ 5) ∷ (mark_wrong f r ⇒ 6) ∷ (limit_wrong f r ⇒ 7) ∷ [])
+span_fault : (f : List ℕ) (r : ℕ) → 0 < r → r ≤ spans_in f → fault f r ≡ lowest ((span_wrong f r ⇒ row.Span) ∷ (mark_wrong f r ⇒ row.Mark) ∷ (limit_wrong f r ⇒ row.Limit) ∷ [])
 span_fault f r h l = fault_by f r ∙ rw (ne_eqb r 0 (λ e. omega arith), lt-ltb 0 r h, le-leb r (spans_in f) l, le-ltb (spans_in f) r l) (span_rows f r)
 
-request_rows : (f : List ℕ) (r : ℕ) → row_by false false true f r ≡ lowest ((too_many f r ⇒ 8) ∷ (request_wrong f r ⇒ 9) ∷ (ends_wrong f r ⇒ 10) ∷ (profit_wrong f r ⇒ 11) ∷ [])
+request_rows : (f : List ℕ) (r : ℕ) → row_by false false true f r ≡ lowest ((too_many f r ⇒ row.TooMany) ∷ (request_wrong f r ⇒ row.Request) ∷ (ends_wrong f r ⇒ row.Ends) ∷ (profit_wrong f r ⇒ row.Profit) ∷ [])
 unfolding row_by seek lowest
 request_rows f r = refl
 
-request_fault : (f : List ℕ) (r : ℕ) → spans_in f < r → fault f r ≡ lowest ((too_many f r ⇒ 8) ∷ (request_wrong f r ⇒ 9) ∷ (ends_wrong f r ⇒ 10) ∷ (profit_wrong f r ⇒ 11) ∷ [])
+request_fault : (f : List ℕ) (r : ℕ) → spans_in f < r → fault f r ≡ lowest ((too_many f r ⇒ row.TooMany) ∷ (request_wrong f r ⇒ row.Request) ∷ (ends_wrong f r ⇒ row.Ends) ∷ (profit_wrong f r ⇒ row.Profit) ∷ [])
 request_fault f r l = fault_by f r ∙ rw (ne_eqb r 0 (λ e. omega arith), lt-ltb 0 r (omega arith), lt-leb r (spans_in f) l, lt-ltb (spans_in f) r l) (request_rows f r)
 
 -- ---- the tests put together
 
 pub span_row_lem : (f : List ℕ) (r : ℕ) → 0 < r → r ≤ spans_in f → span_row f r (channels_in f) ≡ fault f r
-unfolding span_row span_wrong mark_wrong limit_wrong
-span_row_lem f r h l = joined₄ (not (present f r)) _ _ _ 5 _ ∙ sym (span_fault f r h l)
+unfolding tests_of_span span_wrong mark_wrong limit_wrong
+span_row_lem f r h l = joined₄ (not (present f r)) _ _ _ row.Span _ ∙ sym (span_fault f r h l)
 
 pub network_row_lem : (f : List ℕ) → network_row f ≡ fault f 0
-unfolding network_row count_wrong network_wrong nodes_wrong channels_wrong known fewest
+unfolding tests_of_network count_wrong network_wrong nodes_wrong channels_wrong known fewest
 network_row_lem f =
-    behind (count_wrong (length f)) 1 _ _
-    (joined₃ (not (eqb (kind_in f 0) 1)) _ _ 2 _
-    ∙ behind _ 2 _ _ (joined (ltb (nodes_in f) _) _ 3 _ ∙ behind _ 3 _ _ (joined (eqb (channels_in f) 0) _ 4 [])))
+    behind (count_wrong (length f)) row.ByteCount _ _
+    (joined₃ (not (eqb (kind_in f 0) 1)) _ _ row.Network _
+    ∙ behind _ row.Network _ _ (joined (ltb (nodes_in f) _) _ row.Nodes _ ∙ behind _ row.Nodes _ _ (joined (eqb (channels_in f) 0) _ row.Channels [])))
     ∙ sym (network_fault f)
 
 -- request i is one too many where its record is
@@ -63,12 +64,12 @@ too_many_lem s i =
     (less_or_not 255 i)
 
 pub request_row_lem : (f : List ℕ) (i : ℕ) → request_row (drop (start (1 + spans_in f)) f) i (nodes_in f) ≡ fault f (1 + spans_in f + i)
-unfolding request_row request_wrong ends_wrong profit_wrong too_many
+unfolding tests_of_request request_wrong ends_wrong profit_wrong too_many
 request_row_lem f i =
     moved
-    ∙ (behind _ 8 _ _
-    (joined₄ (not (eqb (kind_in f r) 3)) _ _ _ 9 _
-    ∙ behind _ 9 _ _ (joined₃ (not (ltb (a_in f r) (nodes_in f))) _ _ 10 _ ∙ behind _ 10 _ _ (joined (eqb (profit_in f r) 0) _ 11 [])))
+    ∙ (behind _ row.TooMany _ _
+    (joined₄ (not (eqb (kind_in f r) 3)) _ _ _ row.Request _
+    ∙ behind _ row.Request _ _ (joined₃ (not (ltb (a_in f r) (nodes_in f))) _ _ row.Ends _ ∙ behind _ row.Ends _ _ (joined (eqb (profit_in f r) 0) _ row.Profit [])))
     ∙ sym (request_fault f r (omega arith)))
   where
     b : ℕ
@@ -84,7 +85,7 @@ request_row_lem f i =
     moved :
         request_row (drop (start b) f) i (nodes_in f)
         ≡ lowest
-        ((too_many f r ⇒ 8)
+        ((too_many f r ⇒ row.TooMany)
         ∷ drop 1
         (request_tests (r - b) (nodes_in f) (kind_in f r) (mark_in f r) (request_in f r) (blank f (start r + 12) 4)))
     moved =

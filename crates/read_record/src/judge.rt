@@ -1,11 +1,11 @@
 // Judging by numbers. The byte count of a file is row 1 of document 01. A record is judged by its fields: a test for each clause of rows 2 to 11, lowest
-// row first; the answer is the row, or 12 where the record breaks none.
+// row first; the answer is the row that the record breaks, where it breaks one.
 ghost use Rattle.std.specs.Prelude.{◌≡◌};
 ghost use Rattle.paper_book.specs.Refusals.{count_wrong};
-ghost use Rattle.read_record.specs.Tests.{lowest};
+ghost use Rattle.read_record.specs.Tests.{judged};
 ghost use Rattle.read_record.specs.Judged as J;
 
-use crate::{Network, Request, Span, shapes};
+use crate::{Network, Request, Row, Span, shapes};
 
 // Row 1: the byte count is 0, not a multiple of 16, or above 5,136.
 pub fn count_wrong(bytes: usize) -> bool
@@ -20,88 +20,102 @@ pub fn count_wrong(bytes: usize) -> bool
     5136 < bytes
 }
 
-pub fn network(kind: usize, net: Network, rest: bool) -> usize
-    ensures { result ≡ lowest (J.network_tests kind net rest) }
+pub fn network(kind: usize, net: Network, rest: bool) -> Result<(), Row>
+    ensures { result ≡ judged (J.network_tests kind net rest) }
 {
     if kind != 1 {
-        return 2;
+        return Err(Row::Network);
     }
     if !shapes::known(net.shape) {
-        return 2;
+        return Err(Row::Network);
     }
     if !rest {
-        return 2;
+        return Err(Row::Network);
     }
     if net.nodes < shapes::fewest(net.shape) {
-        return 3;
+        return Err(Row::Nodes);
     }
     if 64 < net.nodes {
-        return 3;
+        return Err(Row::Nodes);
     }
     if net.channels == 0 {
-        return 4;
+        return Err(Row::Channels);
     }
     if 96 < net.channels {
-        return 4;
+        return Err(Row::Channels);
     }
-    12
+    Ok(())
 }
 
 // The span numbered `due` of a network of so many channels.
-pub fn span(due: usize, channels: usize, kind: usize, mark: usize, span: Span, rest: bool) -> usize
-    ensures { result ≡ lowest (J.span_tests due channels kind mark span rest) }
+pub fn span(
+    due: usize,
+    channels: usize,
+    kind: usize,
+    mark: usize,
+    span: Span,
+    rest: bool,
+) -> Result<(), Row>
+    ensures { result ≡ judged (J.span_tests due channels kind mark span rest) }
 {
     if kind != 2 {
-        return 5;
+        return Err(Row::Span);
     }
     if span.number != due {
-        return 5;
+        return Err(Row::Span);
     }
     if !rest {
-        return 5;
+        return Err(Row::Span);
     }
     if mark != 1 {
-        return 6;
+        return Err(Row::Mark);
     }
     if channels < span.limit {
-        return 7;
+        return Err(Row::Limit);
     }
-    12
+    Ok(())
 }
 
 // The request numbered `due` of a network of so many nodes.
-pub fn request(due: usize, nodes: usize, kind: usize, mark: usize, q: Request, rest: bool) -> usize
-    ensures { result ≡ lowest (J.request_tests due nodes kind mark q rest) }
+pub fn request(
+    due: usize,
+    nodes: usize,
+    kind: usize,
+    mark: usize,
+    q: Request,
+    rest: bool,
+) -> Result<(), Row>
+    ensures { result ≡ judged (J.request_tests due nodes kind mark q rest) }
 {
     if 255 < due {
-        return 8;
+        return Err(Row::TooMany);
     }
     if kind != 3 {
-        return 9;
+        return Err(Row::Request);
     }
     if mark != 0 {
-        return 9;
+        return Err(Row::Request);
     }
     if q.number != due {
-        return 9;
+        return Err(Row::Request);
     }
     if !rest {
-        return 9;
+        return Err(Row::Request);
     }
     if nodes <= q.a {
-        return 10;
+        return Err(Row::Ends);
     }
     if nodes <= q.b {
-        return 10;
+        return Err(Row::Ends);
     }
     if q.a == q.b {
-        return 10;
+        return Err(Row::Ends);
     }
     if q.profit == 0 {
-        return 11;
+        return Err(Row::Profit);
     }
     if 1000000 < q.profit {
-        return 11;
+        return Err(Row::Profit);
     }
-    12
+    Ok(())
 }

@@ -4,6 +4,7 @@
 
 ghost use Rattle.std.specs.Prelude.{◌≡◌, ◌+◌, ◌*◌, ◌≤◌, ◌<◌, length};
 ghost use Rattle.read_record.specs.Due.{MayStand, record_at};
+ghost use Rattle.read_record.specs.Numbers.{number_of};
 ghost use Rattle.read_record.specs.Records as R;
 
 pub mod bytes;
@@ -11,10 +12,39 @@ mod judge;
 pub mod shapes;
 pub mod view;
 
-// A refusal: its number in the table of document 01, and its place.
+// The rows of document 01's table ("Refusals by number").
+#[derive(Clone, Copy, Debug, PartialEq, Eq)]
+pub enum Row {
+    ByteCount = 1,
+    Network = 2,
+    Nodes = 3,
+    Channels = 4,
+    Span = 5,
+    Mark = 6,
+    Limit = 7,
+    TooMany = 8,
+    Request = 9,
+    Ends = 10,
+    Profit = 11,
+    Short = 12,
+    Price = 13,
+    Ring = 14,
+    NoChannel = 15,
+}
+
+impl Row {
+    // The row's number.
+    pub fn number(self) -> usize
+        ensures { result ≡ number_of self }
+    {
+        self as usize
+    }
+}
+
+// A refusal: the row of the table that is broken, and the place.
 #[derive(Clone, Copy, Debug, PartialEq, Eq)]
 pub struct Refusal {
-    pub number: usize,
+    pub row: Row,
     pub place: usize,
 }
 
@@ -78,13 +108,13 @@ fn head_at(file: &[u8], at: usize) -> Head
 }
 
 // A record that breaks a row is refused at its place.
-fn answer(row: usize, place: usize, got: Record) -> Result<Record, Refusal>
-    ensures { result ≡ R.answer row place got }
+fn answer(judged: Result<(), Row>, place: usize, got: Record) -> Result<Record, Refusal>
+    ensures { result ≡ R.answer judged place got }
 {
-    if row < 12 {
-        return Err(Refusal { number: row, place });
+    match judged {
+        Ok(()) => Ok(got),
+        Err(row) => Err(Refusal { row, place }),
     }
-    Ok(got)
 }
 
 // The network, record 0, with the byte count, which is tested first.
@@ -93,7 +123,7 @@ fn network_at(file: &[u8]) -> Result<Record, Refusal>
 {
     if judge::count_wrong(file.len()) {
         return Err(Refusal {
-            number: 1,
+            row: Row::ByteCount,
             place: 0,
         });
     }
@@ -104,8 +134,8 @@ fn network_at(file: &[u8]) -> Result<Record, Refusal>
         channels: head.second,
     };
     let rest = bytes::blank(file, 6, 10);
-    let row = judge::network(head.kind, network, rest);
-    answer(row, 0, Record::Network(network))
+    let judged = judge::network(head.kind, network, rest);
+    answer(judged, 0, Record::Network(network))
 }
 
 // The span due at a record index, which may be missing.
@@ -115,7 +145,7 @@ fn span_at(file: &[u8], index: usize, channels: usize) -> Result<Record, Refusal
 {
     if file.len() / 16 <= index {
         return Err(Refusal {
-            number: 5,
+            row: Row::Span,
             place: index,
         });
     }
@@ -126,8 +156,8 @@ fn span_at(file: &[u8], index: usize, channels: usize) -> Result<Record, Refusal
         limit: head.second,
     };
     let rest = bytes::blank(file, at + 6, 10);
-    let row = judge::span(index - 1, channels, head.kind, head.mark, span, rest);
-    answer(row, index, Record::Span(span))
+    let judged = judge::span(index - 1, channels, head.kind, head.mark, span, rest);
+    answer(judged, index, Record::Span(span))
 }
 
 // Request i of the part of the file that follows the spans; `before` records stand before the part.
@@ -144,8 +174,8 @@ fn request_at(part: &[u8], i: usize, before: usize, nodes: usize) -> Result<Reco
         profit: bytes::four(part, at + 8),
     };
     let rest = bytes::four_blank(part, at + 12);
-    let row = judge::request(i, nodes, head.kind, head.mark, request, rest);
-    answer(row, before + i, Record::Request(request))
+    let judged = judge::request(i, nodes, head.kind, head.mark, request, rest);
+    answer(judged, before + i, Record::Request(request))
 }
 
 // The record at a position of a slice, as what is due there.

@@ -1,12 +1,11 @@
--- `read_record::answer` meets its contract: the test is that of the definition. Assumes nothing.
-use borrow.Author.Tests.{lt-ltb, le-ltb}
+-- `read_record::answer` meets its contract: case by case. Assumes nothing.
 use Rattle.read_record.specs.Records.{answer}
 use Rattle.read_record.proofs.answer.Goals as goal
 
-pub returns-then-row-lt12 : goal.returns-then-row-lt12
+pub returns-in-Ok : goal.returns-in-Ok
 unfolding answer
-returns-then-row-lt12 c = simp (lt-ltb _ _ c.if-row-lt12.true)
+returns-in-Ok c = rw c.in-Ok.is
 
-pub returns : goal.returns
+pub returns-in-Err : goal.returns-in-Err
 unfolding answer
-returns c = simp (le-ltb _ _ c.if-row-lt12.false)
+returns-in-Err c = rw c.in-Err.is
