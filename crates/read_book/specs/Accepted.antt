@@ -12,12 +12,15 @@ use Rattle.paper_book.specs.Book.{Book, spans, limit}
 use Rattle.paper_book.specs.Reading.{done, refused, reading, refused_not_done}
 use Rattle.read_record.specs.declared.Network.{Network}
 use Rattle.read_record.specs.declared.Refusal.{Refusal}
+use Rattle.read_record.specs.declared.Row.{Row}
+use Rattle.read_record.specs.Numbers.{number_of, same_row}
+use Rattle.read_record.specs.Shapes.{code_of, same_shape}
 use Rattle.read_record.specs.declared.Request.{Request}
 use Rattle.read_book.specs.declared.Taken.{Taken}
 use Rattle.read_book.specs.Says.{Reads, Whole, plain, no_request, book_from, outcome_of}
 
 module _ {f : List ℕ} {read : Result Taken Refusal} (reads : Reads f read) where
-  pub refused_read : {refusal : Refusal} → read ≡ Err refusal → reading f ≡ refused refusal.number refusal.place
+  pub refused_read : {refusal : Refusal} → read ≡ Err refusal → reading f ≡ refused (number_of refusal.row) refusal.place
   unfolding outcome_of
   refused_read e = sym (rw e at reads.says)
 
@@ -53,9 +56,9 @@ module _ {f : List ℕ} {read read' : Result Taken Refusal} (p : Reads f read) (
     same_refusal : refusal ≡ refusal'
     same_refusal =
         let said = sym (refused_read p e) ∙ refused_read q e' in
-        let number : refusal.number ≡ refusal'.number = cc in
+        let number : number_of refusal.row ≡ number_of refusal'.row = cc in
         let place : refusal.place ≡ refusal'.place = cc in
-        ap₂ (λ (n r : ℕ). record { number = n; place = r }) number place
+        ap₂ (λ (row : Row) (place : ℕ). record { row = row; place = place }) (same_row _ _ number) place
 
   -- two accepted books: they are the reading's, request by request and limit by limit; the numbers are the requests' own, and nothing stands past either
   module _ (taken other : Taken) (e : read ≡ Ok taken) (e' : read' ≡ Ok other) where
@@ -70,7 +73,12 @@ module _ {f : List ℕ} {read read' : Result Taken Refusal} (p : Reads f read) (
 
     same_net : taken.network ≡ other.network
     unfolding book_from
-    same_net = ap (λ (b : Book). record { shape = b.shape; nodes = b.nodes; channels = b.channels }) same_book
+    same_net =
+        let shape = same_shape taken.network.shape other.network.shape (ap (λ (b : Book). b.shape) same_book) in
+        let nodes = ap (λ (b : Book). b.nodes) same_book in
+        let channels = ap (λ (b : Book). b.channels) same_book in
+        let all : ◌≡◌ {A = Network} (record { shape = taken.network.shape; nodes = taken.network.nodes; channels = taken.network.channels }) other.network = rw (shape, nodes, channels) in
+        all
 
     same_count : taken.count ≡ other.count
     same_count =
@@ -81,7 +89,7 @@ module _ {f : List ℕ} {read read' : Result Taken Refusal} (p : Reads f read) (
     unfolding book_from spans
     same_limits = vacant_same whole.no_more_limits (rw same_net whole'.no_more_limits) below
       where
-        below : (s : ℕ) → s < B.spans_of taken.network.shape taken.network.nodes → at taken.limits s ≡ at other.limits s
+        below : (s : ℕ) → s < B.spans_of (code_of taken.network.shape) taken.network.nodes → at taken.limits s ≡ at other.limits s
         below s h =
             made_limit taken.network taken.limits taken.count taken.requests s h
             ∙ (ap (λ (b : Book). limit b s) same_book ∙ sym (made_limit other.network other.limits other.count other.requests s (rw same_net at h)))

@@ -8,8 +8,9 @@ use Rattle.read_record.specs.declared.Refusal.{Refusal}
 use Rattle.read_record.specs.declared.Request.{Request}
 use Rattle.read_record.specs.declared.Record.{Record}
 use Rattle.read_record.specs.declared.Record.TheVariants as kind
-use Rattle.read_record.specs.Tests.{first_passed, rest_passed}
-use Rattle.read_record.specs.Records.{request_in, request_row, request_record_at, answer_got}
+use Rattle.read_record.specs.declared.Row.TheVariants as row
+use Rattle.read_record.specs.Tests.{judged, none_found, first_passed, rest_passed}
+use Rattle.read_record.specs.Records.{request_in, tests_of_request, request_row, request_record_at, answer_got}
 use Rattle.read_book.specs.declared.requests.Orders.{Orders}
 use Rattle.read_book.specs.Says.{no_request}
 use Rattle.read_book.specs.Series.{Series, SoFar, Stopped, is_got, so_far_more}
@@ -36,24 +37,24 @@ OrdersRead part before nodes (Err refusal) = Stopped (request_series part before
 module _ (part : List ℕ) (before nodes i : ℕ) (r : Result Record Refusal) (got : Record) (is : r ≡ request_record_at part i before nodes) (e : r ≡ Ok got) where
   pub got_request : got ≡ kind.Request (request_in part i)
   unfolding request_record_at
-  got_request = (answer_got (request_row part i nodes) (before + i) _ got (sym is ∙ e)).1
+  got_request = (answer_got (judged (tests_of_request part i nodes)) (before + i) _ got (sym is ∙ e)).1
 
   -- no test found a fault in it
   passed_all : 12 ≤ request_row part i nodes
   unfolding request_record_at
-  passed_all = (answer_got (request_row part i nodes) (before + i) _ got (sym is ∙ e)).0
+  passed_all = omega (arith, none_found (tests_of_request part i nodes) (answer_got (judged (tests_of_request part i nodes)) (before + i) _ got (sym is ∙ e)).0)
 
   pub request_within : i < 256
-  unfolding request_row
-  request_within = omega (arith, ltb-false 255 i (first_passed _ 8 _ (omega arith) passed_all))
+  unfolding tests_of_request
+  request_within = omega (arith, ltb-false 255 i (first_passed _ row.TooMany _ (omega arith) passed_all))
 
   own_number : number_in part i ≡ i
-  unfolding request_row
+  unfolding tests_of_request
   own_number =
-      let kind = rest_passed _ 8 _ (omega arith) passed_all in
-      let mark = rest_passed _ 9 _ (omega arith) kind in
-      let number = rest_passed _ 9 _ (omega arith) mark in
-      eqb-true (number_in part i) i (not-false _ (first_passed _ 9 _ (omega arith) number))
+      let kind = rest_passed _ row.TooMany _ (omega arith) passed_all in
+      let mark = rest_passed _ row.Request _ (omega arith) kind in
+      let number = rest_passed _ row.Request _ (omega arith) mark in
+      eqb-true (number_in part i) i (not-false _ (first_passed _ row.Request _ (omega arith) number))
 
   pub request_more :
       (requests : List Request) (q : Request)

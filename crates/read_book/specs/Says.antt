@@ -5,6 +5,8 @@ use Rattle.paper_book.specs.Book as B
 use Rattle.paper_book.specs.Reading.{Outcome, done, refused, reading}
 use Rattle.read_record.specs.declared.Network.{Network}
 use Rattle.read_record.specs.declared.Refusal.{Refusal}
+use Rattle.read_record.specs.Numbers.{number_of}
+use Rattle.read_record.specs.Shapes.{code_of}
 use Rattle.read_record.specs.declared.Request.{Request}
 use Rattle.read_book.specs.declared.Taken.{Taken}
 
@@ -20,16 +22,16 @@ no_request = record { number = 0; a = 0; b = 0; profit = 0 }
 unfoldable pub book_from : Network → List ℕ → ℕ → List Request → B.Book
 book_from net limits count requests =
     record {
-      shape = net.shape;
+      shape = code_of net.shape;
       nodes = net.nodes;
       channels = net.channels;
-      limits = take (B.spans_of net.shape net.nodes) limits;
+      limits = take (B.spans_of (code_of net.shape) net.nodes) limits;
       requests = map plain (take count requests);
     }
 
 unfoldable pub outcome_of : Result Taken Refusal → Outcome B.Book
 outcome_of (Ok taken) = done (book_from taken.network taken.limits taken.count taken.requests)
-outcome_of (Err refusal) = refused refusal.number refusal.place
+outcome_of (Err refusal) = refused (number_of refusal.row) refusal.place
 
 -- what is handed on of an accepted book beside what it says
 pub record Whole (taken : Taken) : Type 0 where
@@ -38,7 +40,7 @@ pub record Whole (taken : Taken) : Type 0 where
   pub numbered : (i : ℕ) → i < taken.count → (get_or taken.requests i no_request).number ≡ i
   -- and past the requests, and past the network's limits, there is nothing
   pub no_more_requests : Vacant no_request taken.count 256 taken.requests
-  pub no_more_limits : Vacant 0 (B.spans_of taken.network.shape taken.network.nodes) 64 taken.limits
+  pub no_more_limits : Vacant 0 (B.spans_of (code_of taken.network.shape) taken.network.nodes) 64 taken.limits
 
 -- the reader's promise: its answer is the reading of document 01. It leaves no value open (`taken_once`).
 pub record Reads (file : List ℕ) (read : Result Taken Refusal) : Type 0 where

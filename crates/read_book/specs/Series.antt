@@ -1,8 +1,8 @@
 -- Records of one kind read in turn into a list, the first fault ending the reading (document 01, "Refusals by number"). What holds after i
 -- records, none of them refused, each entry standing in the list and nothing past them, is kept by one more record, and at the end it is the answer.
 -- Assumes nothing.
-use Rattle.std.specs.Prelude.{◌≡◌, refl, Result, Ok, Err, Bool, true, false, not, List, ◌⊎◌, ℕ, ◌+◌, ◌<◌, set, T, eqb}
-use Rattle.std.proofs.Common.{sym, ap, subst, ◌∙◌, ⊎_elim, arith, below_more, eq-eqb, T_not}
+use Rattle.std.specs.Prelude.{◌≡◌, Result, Ok, Err, Bool, true, false, not, List, ◌⊎◌, ℕ, ◌+◌, ◌<◌, set, T, eqb}
+use Rattle.std.proofs.Common.{sym, ◌∙◌, ⊎_elim, arith, below_more, eq-eqb, T_not}
 use Rattle.base_sums.specs.Each.{of_yes}
 use Rattle.base_sums.specs.Filled.{FilledBy, filled_none, filled_more}
 use Rattle.base_sums.specs.Vacant.{Vacant, vacant_more}

@@ -1,12 +1,13 @@
 -- The span records in turn: span s stands in record 1 + s, and the list takes its limit. Assumes nothing.
-use Rattle.std.specs.Prelude.{◌≡◌, Result, Ok, List, ℕ, ◌+◌, ◌-◌, ◌≤◌, ◌<◌, set}
-use Rattle.std.proofs.Common.{sym, ap, subst, ◌∙◌, arith}
+use Rattle.std.specs.Prelude.{◌≡◌, Result, Ok, List, ℕ, ◌+◌, ◌<◌, set}
+use Rattle.std.proofs.Common.{sym, ap, ◌∙◌}
 use Rattle.paper_book.specs.Refusals.{limit_in}
 use Rattle.read_record.specs.declared.Refusal.{Refusal}
 use Rattle.read_record.specs.declared.Span.{Span}
 use Rattle.read_record.specs.declared.Record.{Record}
 use Rattle.read_record.specs.declared.Record.TheVariants as kind
-use Rattle.read_record.specs.Records.{span_in, span_row, span_record_at, answer_got}
+use Rattle.read_record.specs.Records.{span_in, tests_of_span, span_record_at, answer_got}
+use Rattle.read_record.specs.Tests.{judged}
 use Rattle.read_book.specs.Series.{Series, SoFar, InList, is_got, so_far_more}
 
 abbrev pub span_series : List ℕ → ℕ → Series ℕ
@@ -20,7 +21,7 @@ SpansRead f channels spans read = InList (span_series f channels) spans read
 module _ (f : List ℕ) (channels s : ℕ) (reading : Result Record Refusal) (got : Record) (is : reading ≡ span_record_at f (1 + s) channels) (e : reading ≡ Ok got) where
   pub got_span : got ≡ kind.Span (span_in f (1 + s))
   unfolding span_record_at
-  got_span = (answer_got (span_row f (1 + s) channels) (1 + s) _ got (sym is ∙ e)).1
+  got_span = (answer_got (judged (tests_of_span f (1 + s) channels)) (1 + s) _ got (sym is ∙ e)).1
 
   pub span_more :
       (limits : List ℕ) (span : Span)

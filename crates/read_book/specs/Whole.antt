@@ -12,18 +12,20 @@ use Rattle.paper_book.specs.Refusals.{start, records, shape_in, nodes_in, channe
 use Rattle.paper_book.specs.Reading.{done, refused, request_of, book_of, reading}
 use Rattle.read_record.specs.declared.Network.{Network}
 use Rattle.read_record.specs.declared.Refusal.{Refusal}
+use Rattle.read_record.specs.Numbers.{number_of}
 use Rattle.read_record.specs.declared.Request.{Request}
 use Rattle.read_record.specs.declared.Record.{Record}
 use Rattle.read_record.specs.declared.Record.TheVariants as kind
+use Rattle.read_record.specs.Shapes.{code_of, shape_of}
 use Rattle.read_record.specs.Parts.{a_part, b_part, profit_part, records_part, part_is}
 use Rattle.read_record.specs.Records.{network_in, network_record_at}
 use Rattle.read_book.specs.declared.Taken.{Taken}
 use Rattle.read_book.specs.declared.requests.Orders.{Orders}
 use Rattle.read_book.specs.Says.{Reads, Whole, no_request, plain, book_from, outcome_of}
-use Rattle.read_book.specs.Series.{AllGot, AllMeant}
+use Rattle.read_book.specs.Series.{AllMeant}
 use Rattle.read_book.specs.Spans.{SpansRead, span_series}
 use Rattle.read_book.specs.Orders.{OrdersRead, OrdersTaken, request_read, request_series}
-use Rattle.read_book.specs.WaysOut.{Headed, headed, got_network, span_says, request_says, part_there, after_spans, spans_refused, requests_refused, all_clean}
+use Rattle.read_book.specs.WaysOut.{Headed, headed, got_network, part_there, after_spans, spans_refused, requests_refused, all_clean}
 
 -- ---- the lists
 
@@ -63,21 +65,23 @@ requests_are f b n requests h p =
 
 book_is :
     (f limits : List ℕ) (requests : List Request)
+    → code_of (shape_of (shape_in f)) ≡ shape_in f
     → spans_in f ≤ length limits
     → AllMeant (span_series f (channels_in f)) limits (spans_in f)
     → records (after_spans f) ≤ length requests
     → AllMeant (request_series (after_spans f) (1 + spans_in f) (nodes_in f)) requests (records (after_spans f))
     → book_from (network_in f) limits (records (after_spans f)) requests ≡ book_of f
 unfolding book_from book_of spans_in
-book_is f limits requests hl pl hr pr =
-    ap₂ (λ (ls : List ℕ) (qs : List B.Request). record { shape = shape_in f; nodes = nodes_in f; channels = channels_in f; limits = ls; requests = qs })
+book_is f limits requests shaped hl pl hr pr =
+    rw shaped
+    (ap₂ (λ (ls : List ℕ) (qs : List B.Request). record { shape = shape_in f; nodes = nodes_in f; channels = channels_in f; limits = ls; requests = qs })
     (limits_are f limits hl pl)
-    (requests_are f (1 + spans_in f) (records (after_spans f)) requests hr pr ∙ ap (λ (n : ℕ). table n (λ i. request_of f (1 + spans_in f + i))) (records_part f (1 + spans_in f)))
+    (requests_are f (1 + spans_in f) (records (after_spans f)) requests hr pr ∙ ap (λ (n : ℕ). table n (λ i. request_of f (1 + spans_in f + i))) (records_part f (1 + spans_in f))))
 
 -- ---- the ways out
 
 -- a refusal
-pub not_read : (f : List ℕ) (refusal : Refusal) → reading f ≡ refused refusal.number refusal.place → Reads f (Err refusal)
+pub not_read : (f : List ℕ) (refusal : Refusal) → reading f ≡ refused (number_of refusal.row) refusal.place → Reads f (Err refusal)
 unfolding outcome_of
 not_read f refusal r = record { says = sym r; whole = λ taken e. absurd (no_book e) }
   where
@@ -92,9 +96,9 @@ pub record Begun (f : List ℕ) (network : Network) (n : ℕ) : Type 0 where
 
 pub begun :
     (f : List ℕ) (r : Result Record Refusal) (got : Record) (network : Network) (n : ℕ)
-    → r ≡ network_record_at f → r ≡ Ok got → got ≡ kind.Network network → n ≡ B.spans_of network.shape network.nodes → Begun f network n
+    → r ≡ network_record_at f → r ≡ Ok got → got ≡ kind.Network network → n ≡ B.spans_of (code_of network.shape) network.nodes → Begun f network n
 unfolding spans_in
-begun f r got network n at e k n-of = record { head = headed f got (sym at ∙ e); is = is; n_is = n-of ∙ ap (λ (t : Network). B.spans_of t.shape t.nodes) is }
+begun f r got network n at e k n-of = record { head = headed f got (sym at ∙ e); is = is; n_is = n-of ∙ (ap (λ (t : Network). B.spans_of (code_of t.shape) t.nodes) is ∙ ap (λ (s : ℕ). B.spans_of s (nodes_in f)) (headed f got (sym at ∙ e)).shaped) }
   where
     is : network ≡ network_in f
     is = cc (got_network f got (sym at ∙ e))
@@ -106,7 +110,7 @@ module _ (f : List ℕ) (network : Network) (n : ℕ) (so_far : Begun f network 
   spans_read : SpansRead f (channels_in f) (spans_in f) limits
   spans_read = subst (λ (m : ℕ). SpansRead f (channels_in f) m limits) n_is (subst (λ (net : Network). SpansRead f net.channels n limits) is read)
 
-  pub refused_in_spans : (refusal : Refusal) → limits ≡ Err refusal → reading f ≡ refused refusal.number refusal.place
+  pub refused_in_spans : (refusal : Refusal) → limits ≡ Err refusal → reading f ≡ refused (number_of refusal.row) refusal.place
   refused_in_spans refusal e = spans_refused f head refusal (rw e at spans_read)
 
   module _ (list : List ℕ) (e : limits ≡ Ok list) where
@@ -126,7 +130,7 @@ module _ (f : List ℕ) (network : Network) (n : ℕ) (so_far : Begun f network 
           (subst (λ (t : Network). OrdersRead (drop (start (1 + n)) f) (1 + n) t.nodes orders) is
           (subst (λ (p : List ℕ). OrdersRead p (1 + n) network.nodes orders) (part_is f (16 * (1 + n))) o))
 
-      pub refused_in_requests : (refusal : Refusal) → orders ≡ Err refusal → reading f ≡ refused refusal.number refusal.place
+      pub refused_in_requests : (refusal : Refusal) → orders ≡ Err refusal → reading f ≡ refused (number_of refusal.row) refusal.place
       refused_in_requests refusal r = requests_refused f head spans_got.got refusal (rw r at requests_read)
 
       pub book_read : (taken : Orders) → orders ≡ Ok taken → Reads f (Ok (record { network = network; limits = list; count = taken.count; requests = taken.requests }))
@@ -136,7 +140,7 @@ module _ (f : List ℕ) (network : Network) (n : ℕ) (so_far : Begun f network 
             says =
                 rw (is, all)
                 (ap done
-                (book_is f list taken.requests (omega (arith, head.most, spans_got.no_more.long)) spans_got.filled (omega (arith, all, got.within, got.in_list.no_more.long)) got.in_list.filled)
+                (book_is f list taken.requests head.shaped (omega (arith, head.most, spans_got.no_more.long)) spans_got.filled (omega (arith, all, got.within, got.in_list.no_more.long)) got.in_list.filled)
                 ∙ sym (all_clean f head spans_got.got got.in_list.got));
             whole = λ made same. subst Whole (only same) whole;
           }
@@ -152,7 +156,7 @@ module _ (f : List ℕ) (network : Network) (n : ℕ) (so_far : Begun f network 
             counted = got.within;
             numbered = λ i h. ap (λ (q : Request). q.number) (got.in_list.filled.is i (omega (arith, all)));
             no_more_requests = rw all got.in_list.no_more;
-            no_more_limits = rw is spans_got.no_more;
+            no_more_limits = rw (is, head.shaped) spans_got.no_more;
           }
 
           only : {made : Taken} → ◌≡◌ {A = Result Taken Refusal} (Ok (record { network = network; limits = list; count = taken.count; requests = taken.requests })) (Ok made) → record { network = network; limits = list; count = taken.count; requests = taken.requests } ≡ made

@@ -4,7 +4,7 @@
 
 ghost use Rattle.read_book.specs.Says.{Reads};
 
-use read_record::{Due, Network, Record, Refusal, Request, shapes, view};
+use read_record::{Due, Network, Record, Refusal, Request, view};
 
 mod requests;
 mod spans;
@@ -27,7 +27,7 @@ pub fn read_book(file: &[u8]) -> Result<Taken, Refusal>
     let Record::Network(network) = got else {
         unreachable!()
     };
-    let spans = shapes::spans_of(network.shape, network.nodes);
+    let spans = network.shape.spans_of(network.nodes);
     let limits = spans::read_spans(file, network.channels, spans)?;
     let before = 1 + spans;
     let orders = requests::read_requests(&file[16 * before..], before, network.nodes)?;

@@ -1,5 +1,6 @@
 pub mod Blank
 pub mod Numbers
+pub mod Shapes
 pub mod Tests
 pub mod Judged
 pub mod Records

@@ -1,7 +1,6 @@
 -- What reading one record comes to: the row of document 01's table that it breaks, with its place, or the record itself. Assumes nothing.
-use Rattle.std.specs.Prelude.{◌≡◌, refl, Result, Ok, Err, ⊤, Bool, true, false, cond, not, List, ◌∷◌, ℕ, ◌+◌, ◌-◌, ◌≤◌, ◌<◌, length, ltb}
-use Rattle.std.proofs.Common.{⊎_elim, arith, lt-ltb, ltb-true, ltb-false}
-use Rattle.base_sums.specs.Each.{decided}
+use Rattle.std.specs.Prelude.{◌≡◌, refl, Result, Ok, Err, ⊤, Bool, true, false, not, List, ◌∷◌, ℕ, ◌+◌, ◌-◌, ◌≤◌, length}
+use Rattle.std.proofs.Common.{sym, ◌∙◌, arith}
 use Rattle.paper_book.specs.Bytes.{byte, two, blank}
 use Rattle.paper_book.specs.Refusals.{start, present, kind_in, mark_in, number_in, shape_in, nodes_in, channels_in, limit_in, a_in, b_in, profit_in, count_wrong}
 use Rattle.read_record.specs.declared.Refusal.{Refusal}
@@ -13,8 +12,10 @@ use Rattle.read_record.specs.declared.Request.{Request}
 use Rattle.read_record.specs.declared.Head.{Head}
 use Rattle.read_record.specs.declared.Row.{Row}
 use Rattle.read_record.specs.declared.Row.TheVariants as row
-use Rattle.read_record.specs.Tests.{Test, ◌⇒◌, judged, lowest}
-use Rattle.read_record.specs.Judged.{network_tests, span_tests, request_tests}
+use borrow.Author.Tests.{not-false}
+use Rattle.read_record.specs.Shapes.{code_of, shape_of, code_back}
+use Rattle.read_record.specs.Tests.{Test, ◌⇒◌, judged, lowest, none_found, first_passed, rest_passed}
+use Rattle.read_record.specs.Judged.{NetworkJudged, network_tests, span_tests, request_tests}
 
 -- what a record of any kind begins with, at an offset: the fields that a kind has there are these (`kind_in`, `mark_in`, `number_in`, ..)
 abbrev pub head_at : List ℕ → ℕ → Head
@@ -49,16 +50,39 @@ answer_rest t n ts place r e = rw e
 -- ---- record 0 of a file
 
 abbrev pub network_in : List ℕ → Network
-network_in f = record { shape = shape_in f; nodes = nodes_in f; channels = channels_in f }
+network_in f = record { shape = shape_of (shape_in f); nodes = nodes_in f; channels = channels_in f }
 
 unfoldable pub tests_of_network : List ℕ → List Test
-tests_of_network f = (count_wrong (length f) ⇒ row.ByteCount) ∷ network_tests (kind_in f 0) (network_in f) (blank f 6 10)
+tests_of_network f = (count_wrong (length f) ⇒ row.ByteCount) ∷ network_tests (kind_in f 0) (shape_in f) (nodes_in f) (channels_in f) (blank f 6 10)
 
 abbrev pub network_row : List ℕ → ℕ
 network_row f = lowest (tests_of_network f)
 
 unfoldable pub network_record_at : List ℕ → Result Record Refusal
 network_record_at f = answer (judged (tests_of_network f)) 0 (kind.Network (network_in f))
+
+-- where it is got its shape is known
+pub shape_got : (f : List ℕ) → judged (tests_of_network f) ≡ Ok tt → code_of (shape_of (shape_in f)) ≡ shape_in f
+unfolding tests_of_network
+shape_got f e =
+    let all : 12 ≤ network_row f = omega (arith, none_found (tests_of_network f) e) in
+    let kind = rest_passed _ row.ByteCount _ (omega arith) all in
+    let shape = rest_passed _ row.Network _ (omega arith) kind in
+    code_back (shape_in f) (not-false _ (first_passed _ row.Network _ (omega arith) shape))
+
+-- what judging its fields comes to
+module _ (f : List ℕ) (head : Head) (rest : Bool) (right : count_wrong (length f) ≡ false) (h : head ≡ head_at f 0) (r : rest ≡ blank f 6 10) where
+  pub network_got : (network : Network) → NetworkJudged head.kind head.mark head.first head.second rest (Ok network) → Ok (kind.Network network) ≡ network_record_at f
+  unfolding network_record_at tests_of_network answer kind_in shape_in nodes_in channels_in start
+  network_got network j =
+      let k : NetworkJudged (byte f 0) (byte f 1) (two f 2) (two f 4) (blank f 6 10) (Ok network) = rw (h, r) at j in
+      sym (answer_rest _ _ _ 0 _ right ∙ rw (k.0, k.1) refl)
+
+  pub network_not_got : (row : Row) → NetworkJudged head.kind head.mark head.first head.second rest (Err row) → Err (record { row = row; place = 0 }) ≡ network_record_at f
+  unfolding network_record_at tests_of_network answer kind_in shape_in nodes_in channels_in start
+  network_not_got row j =
+      let k : NetworkJudged (byte f 0) (byte f 1) (two f 2) (two f 4) (blank f 6 10) (Err row) = rw (h, r) at j in
+      sym (answer_rest _ _ _ 0 _ right ∙ rw k refl)
 
 -- ---- record r of a file, where a span is due and there are so many channels
 

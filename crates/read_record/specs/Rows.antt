@@ -7,7 +7,7 @@ use Rattle.base_sums.specs.Each.{seek, first, less_or_not}
 use Rattle.paper_book.specs.Bytes.{blank}
 use Rattle.paper_book.specs.Refusals.{start, present, kind_in, mark_in, nodes_in, channels_in, spans_in, a_in, profit_in, known, fewest, count_wrong, network_wrong, nodes_wrong, channels_wrong, span_wrong, mark_wrong, limit_wrong, too_many, request_wrong, ends_wrong, profit_wrong, network_due, span_due, request_due, by_kind, rows, fault}
 use Rattle.read_record.specs.declared.Row.TheVariants as row
-use Rattle.read_record.specs.Tests.{◌⇒◌, lowest, joined, joined₃, joined₄, behind}
+use Rattle.read_record.specs.Tests.{◌⇒◌, Eleven, lowest, joined, joined₃, joined₄, behind}
 use Rattle.read_record.specs.Judged.{request_tests}
 use Rattle.read_record.specs.Parts.{kind_part, mark_part, number_part, a_part, b_part, profit_part, rest_part}
 use Rattle.read_record.specs.Records.{request_in, tests_of_network, tests_of_span, tests_of_request, network_row, span_row, request_row}
@@ -91,3 +91,18 @@ request_row_lem f i =
     moved =
         simp
         (kind_part f b i, mark_part f b i, number_part f b i, a_part f b i, b_part f b i, profit_part f b i, rest_part f b i, too_many_lem (spans_in f) i, due)
+
+-- ---- a record breaks one of the first eleven rows
+
+pub eleven_network : (f : List ℕ) → Eleven (tests_of_network f)
+unfolding tests_of_network
+eleven_network f = (omega arith, (omega arith, (omega arith, (omega arith, (omega arith, (omega arith, (omega arith, (omega arith, tt))))))))
+
+pub eleven_span : (f : List ℕ) (r channels : ℕ) → Eleven (tests_of_span f r channels)
+unfolding tests_of_span
+eleven_span f r channels = (omega arith, (omega arith, (omega arith, (omega arith, (omega arith, (omega arith, tt))))))
+
+pub eleven_request : (part : List ℕ) (i nodes : ℕ) → Eleven (tests_of_request part i nodes)
+unfolding tests_of_request
+eleven_request part i nodes =
+    (omega arith, (omega arith, (omega arith, (omega arith, (omega arith, (omega arith, (omega arith, (omega arith, (omega arith, (omega arith, tt))))))))))

@@ -5,7 +5,7 @@ ghost use Rattle.paper_book.specs.Refusals.{count_wrong};
 ghost use Rattle.read_record.specs.Tests.{judged};
 ghost use Rattle.read_record.specs.Judged as J;
 
-use crate::{Network, Request, Row, Span, shapes};
+use crate::{Network, Request, Row, Shape, Span};
 
 // Row 1: the byte count is 0, not a multiple of 16, or above 5,136.
 pub fn count_wrong(bytes: usize) -> bool
@@ -20,31 +20,39 @@ pub fn count_wrong(bytes: usize) -> bool
     5136 < bytes
 }
 
-pub fn network(kind: usize, net: Network, rest: bool) -> Result<(), Row>
-    ensures { result ≡ judged (J.network_tests kind net rest) }
+pub fn network(
+    kind: usize,
+    shape: usize,
+    nodes: usize,
+    channels: usize,
+    rest: bool,
+) -> Result<Network, Row>
+    ensures { J.NetworkJudged kind shape nodes channels rest result }
 {
     if kind != 1 {
         return Err(Row::Network);
     }
-    if !shapes::known(net.shape) {
-        return Err(Row::Network);
-    }
+    let shape = Shape::try_from(shape)?;
     if !rest {
         return Err(Row::Network);
     }
-    if net.nodes < shapes::fewest(net.shape) {
+    if nodes < shape.fewest() {
         return Err(Row::Nodes);
     }
-    if 64 < net.nodes {
+    if 64 < nodes {
         return Err(Row::Nodes);
     }
-    if net.channels == 0 {
+    if channels == 0 {
         return Err(Row::Channels);
     }
-    if 96 < net.channels {
+    if 96 < channels {
         return Err(Row::Channels);
     }
-    Ok(())
+    Ok(Network {
+        shape,
+        nodes,
+        channels,
+    })
 }
 
 // The span numbered `due` of a network of so many channels.

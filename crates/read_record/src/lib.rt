@@ -9,8 +9,10 @@ ghost use Rattle.read_record.specs.Records as R;
 
 pub mod bytes;
 mod judge;
-pub mod shapes;
+mod shape;
 pub mod view;
+
+pub use shape::Shape;
 
 // The rows of document 01's table ("Refusals by number").
 #[derive(Clone, Copy, Debug, PartialEq, Eq)]
@@ -51,7 +53,7 @@ pub struct Refusal {
 // The fields of the three kinds of record.
 #[derive(Clone, Copy, Debug, PartialEq, Eq)]
 pub struct Network {
-    pub shape: usize,
+    pub shape: Shape,
     pub nodes: usize,
     pub channels: usize,
 }
@@ -128,14 +130,11 @@ fn network_at(file: &[u8]) -> Result<Record, Refusal>
         });
     }
     let head = head_at(file, 0);
-    let network = Network {
-        shape: head.mark,
-        nodes: head.first,
-        channels: head.second,
-    };
     let rest = bytes::blank(file, 6, 10);
-    let judged = judge::network(head.kind, network, rest);
-    answer(judged, 0, Record::Network(network))
+    match judge::network(head.kind, head.mark, head.first, head.second, rest) {
+        Ok(network) => Ok(Record::Network(network)),
+        Err(row) => Err(Refusal { row, place: 0 }),
+    }
 }
 
 // The span due at a record index, which may be missing.

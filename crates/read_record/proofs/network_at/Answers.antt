@@ -4,9 +4,8 @@ use mathlib.Core.Path.{sym, ◌∙◌}
 use Prim.Native.Nat.{◌≤◌}
 use native.Mathlib.Omega.{arith}
 use lib.ListN.{length}
-use Rattle.paper_book.specs.Refusals.{start, kind_in, shape_in, nodes_in, channels_in}
 use Rattle.read_record.specs.Judged.{one_record}
-use Rattle.read_record.specs.Records.{tests_of_network, network_record_at, answer_first, answer_rest}
+use Rattle.read_record.specs.Records.{tests_of_network, network_record_at, answer_first, network_got, network_not_got}
 use Rattle.read_record.proofs.network_at.Goals as goal
 
 pub returns-then-count_wrong : goal.returns-then-count_wrong
@@ -23,9 +22,8 @@ blank-rest-requires c =
     let long : 16 ≤ length c.args.file.now = one_record _ (sym c.count_wrong.ensures ∙ c.if-count_wrong.false) in
     omega (arith, long)
 
-pub returns : goal.returns
-unfolding network_record_at tests_of_network kind_in shape_in nodes_in channels_in start
-returns c =
-    sym
-    (answer_rest _ _ _ 0 _ (sym c.count_wrong.ensures ∙ c.if-count_wrong.false)
-    ∙ simp (c.answer.ensures, c.network-judged.ensures, c.blank-rest.ensures, c.head_at-head.ensures))
+pub returns-in-Ok : goal.returns-in-Ok
+returns-in-Ok c = network_got _ _ _ (sym c.count_wrong.ensures ∙ c.if-count_wrong.false) c.head_at-head.ensures c.blank-rest.ensures _ c.in-Ok.ensures
+
+pub returns-in-Err : goal.returns-in-Err
+returns-in-Err c = network_not_got _ _ _ (sym c.count_wrong.ensures ∙ c.if-count_wrong.false) c.head_at-head.ensures c.blank-rest.ensures _ c.in-Err.ensures

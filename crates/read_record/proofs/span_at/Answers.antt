@@ -1,6 +1,5 @@
 -- `read_record::span_at` meets its contract: each field is where the definition has it. Assumes nothing.
 use mathlib.Core.Path.{sym, ◌∙◌}
-use native.Mathlib.Omega.{arith}
 use borrow.Author.Tests.{lt-ltb, le-ltb}
 use Rattle.paper_book.specs.Refusals.{start, records, present, kind_in, mark_in, number_in, limit_in}
 use Rattle.read_record.specs.Records.{tests_of_span, span_record_at, answer_first, answer_rest}
