@@ -5,9 +5,6 @@ ghost use Rattle.std.specs.Prelude.{◌≡◌};
 ghost use Rattle.paper_book.specs.Reading.{reading};
 ghost use Rattle.read_runs.specs.Told.{is_refused, is_done};
 
-use read_book::Answer;
-use read_record::Refusal;
-
 // A line of two nodes and three channels, a span of limit 3, and a request 0 to 1 of profit 1,000,000.
 const BOOK: [u8; 48] = [
     1, 1, 0, 2, 0, 3, 0, 0, 0, 0, 0, 0, 0, 0, 0, 0, 2, 1, 0, 0, 0, 3, 0, 0, 0, 0, 0, 0, 0, 0, 0, 0,
@@ -34,23 +31,16 @@ const PLACE: [usize; 21] = [
 fn accepted(file: &[u8]) -> bool
     ensures { result ≡ is_done (reading file.now) }
 {
-    let taken = read_book::read_book(file);
-    let answer = taken.answer;
-    match answer {
-        Answer::Accepted(_) => true,
-        Answer::Refused(_) => false,
-    }
+    read_book::read_book(file).is_ok()
 }
 
 // Whether the book is refused by this number at this place.
 fn refused(file: &[u8], number: usize, place: usize) -> bool
     ensures { result ≡ is_refused (reading file.now) number place }
 {
-    let taken = read_book::read_book(file);
-    let answer = taken.answer;
-    match answer {
-        Answer::Accepted(_) => false,
-        Answer::Refused(refusal) => refusal.number == number && refusal.place == place,
+    match read_book::read_book(file) {
+        Ok(_) => false,
+        Err(refusal) => refusal.row.number() == number && refusal.place == place,
     }
 }
 
@@ -66,12 +56,10 @@ fn parts() {
 
 // One byte changed.
 fn changes() {
-    let mut k = 0;
-    while k < 21 {
+    for k in 0..21 {
         let mut book = BOOK;
         book[AT[k]] = VALUE[k];
         check::expect(refused(&book, NUMBER[k], PLACE[k]));
-        k += 1;
     }
 }
 

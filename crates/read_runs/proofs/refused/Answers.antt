@@ -4,16 +4,16 @@ use Rattle.read_book.specs.Accepted.{accepted_read, refused_read}
 use Rattle.read_runs.specs.Told.{is_refused}
 use Rattle.read_runs.proofs.refused.Goals as goal
 
-pub returns-in-Accepted : goal.returns-in-Accepted
+pub returns-in-Ok : goal.returns-in-Ok
 unfolding is_refused
-returns-in-Accepted c = rw (accepted_read c.read_book-taken.ensures c.in-Accepted.is)
+returns-in-Ok c = rw (accepted_read c.read_book.ensures c.in-Ok.is)
 
-pub returns-then-refusal-number : goal.returns-then-refusal-number
+pub returns-then-number : goal.returns-then-number
 unfolding is_refused
-returns-then-refusal-number c =
-    simp (refused_read c.read_book-taken.ensures c.in-Refused.is, eq-eqb _ _ c.if-refusal-number.true)
+returns-then-number c =
+    simp (refused_read c.read_book.ensures c.in-Err.is, ← c.number.ensures, eq-eqb _ _ c.if-number.true)
 
-pub returns-else-refusal-number : goal.returns-else-refusal-number
+pub returns-else-number : goal.returns-else-number
 unfolding is_refused
-returns-else-refusal-number c =
-    simp (refused_read c.read_book-taken.ensures c.in-Refused.is, ne_eqb _ _ c.if-refusal-number.false)
+returns-else-number c =
+    simp (refused_read c.read_book.ensures c.in-Err.is, ← c.number.ensures, ne_eqb _ _ c.if-number.false)
