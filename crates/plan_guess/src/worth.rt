@@ -1,82 +1,51 @@
 // The worth of a request by itself: what it brings for the room that it takes.
-ghost use Rattle.std.specs.Prelude.{◌≤◌, length};
+ghost use Rattle.std.specs.Prelude.{◌≤◌};
 
-// The least and the greatest of some numbers.
+use crate::requests::Requests;
+
+// The least and the greatest of the profits.
 #[derive(Clone, Copy)]
 pub struct Extremes {
     pub least: usize,
     pub greatest: usize,
 }
 
-pub fn range(count: usize, list: &[usize]) -> Extremes
-    requires { count ≤ length list.now }
-{
-    let mut least = 1000000;
-    let mut greatest = 0;
-    let mut i = 0;
-    while i < count {
-        let x = list[i];
-        least = base_numbers::lower(least, x);
-        greatest = base_numbers::higher(greatest, x);
-        i += 1;
+impl Extremes {
+    pub fn of(profits: &[usize]) -> Extremes {
+        let mut least = 1000000;
+        let mut greatest = 0;
+        for profit in profits {
+            least = least.min(*profit);
+            greatest = greatest.max(*profit);
+        }
+        Extremes { least, greatest }
     }
-    Extremes { least, greatest }
-}
 
-// What every request is given above the least profit, so that a length counts with that one too.
-pub fn lift(least: usize, greatest: usize) -> usize {
-    if greatest < least {
-        return 1;
+    // How far they lie apart.
+    pub fn apart(&self) -> usize {
+        self.greatest.saturating_sub(self.least)
     }
-    (greatest - least) / 16 + 1
 }
 
 // What a request of this length counts for: nearly 64 parts in 64 + length, of 16384, by a curve that needs no division. From 76 on it falls no more.
-fn weight(length: usize) -> usize
-    ensures { result ≤ 32768 }
-{
+fn weight(length: usize) -> usize {
     if 76 < length {
         return 8062;
     }
     16384 + 11 * length * length / 8 - 214 * length
 }
 
-// What a request brings above the least for the room that it takes: a longer one is worth less. (Figures found by trying: docs/BENCH.md.)
-fn worth(profit: usize, least: usize, lift: usize, lo: usize, hi: usize) -> usize {
-    if 1000000 < profit {
-        return 0;
-    }
-    if 1000000 < lift {
-        return 0;
-    }
-    if profit < least {
-        return 0;
-    }
-    if hi < lo {
-        return 0;
-    }
-    (profit - least + lift) * weight(hi - lo) / 128
-}
-
-// The worth of each request, and the greatest.
-pub fn weigh(
-    count: usize,
-    lo: &[usize; 256],
-    hi: &[usize; 256],
-    profit: &[usize; 256],
-    least: usize,
-    lift: usize,
-    worths: &mut [usize; 256],
-) -> usize
-    requires { count ≤ 256 }
-{
+// The worth of each request, and the greatest: what it brings above the least for the room that it takes. A longer one is worth less; and every one is given a
+// part above the least, so that a length counts with that one too. (Figures found by trying: docs/BENCH.md.)
+pub fn weigh(requests: &Requests, profits: Extremes, worths: &mut [usize; 256]) -> usize {
+    let lift = profits.apart() / 16 + 1;
     let mut top = 0;
-    let mut i = 0;
-    while i < count {
-        let w = worth(profit[i], least, lift, lo[i], hi[i]);
-        worths[i] = w;
-        top = base_numbers::higher(top, w);
-        i += 1;
+    for (i, profit) in requests.profit.iter().enumerate() {
+        let brings = profit.saturating_sub(profits.least).saturating_add(lift);
+        let length = requests.hi[i].saturating_sub(requests.lo[i]);
+        let worth = brings.saturating_mul(weight(length)) / 128;
+        worths[i] = worth;
+        top = worth.max(top);
     }
     top
 }
