@@ -93,11 +93,7 @@ fn at_prices(
     if top == 0 {
         return None;
     }
-    let ceiling = if comparable(limits, off) {
-        Some(prices.ceiling(bidders))
-    } else {
-        None
-    };
+    let ceiling = comparable(limits, off).then(|| prices.ceiling(bidders));
     Some(Guess { top, ceiling })
 }
 
