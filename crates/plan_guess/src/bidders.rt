@@ -31,7 +31,7 @@ pub fn bid(profit: usize, off: usize) -> usize {
     profit.saturating_sub(off).saturating_mul(64)
 }
 
-// The bidders, and what they bid together.
+// Lays the bidders, and adds up what they bid. (They are lent: handed back in a struct they were copied, tried and slower.)
 pub fn lay(requests: &Requests, off: usize, bidders: &mut [Bidder; 256]) -> usize {
     let mut sum: usize = 0;
     for (i, profit) in requests.profit.iter().enumerate() {

@@ -18,7 +18,7 @@ impl Crossing {
     }
 }
 
-// Who asks: those that bid more than their spans cost.
+// Where those begin and end who ask: they bid more than their spans cost. (The crossings are lent: handed back they were copied in every round, tried and slower.)
 fn ask(bidders: &[Bidder], tolls: &[usize; 64], crossings: &mut [Crossing; 64]) {
     for bidder in bidders {
         if bidder.fare(tolls) < bidder.bid {
@@ -73,7 +73,7 @@ impl<'a> Prices<'a> {
         })
     }
 
-    // One round: each price moves by its rate for each request too many, or too few.
+    // One round: each price moves by its rate for each request too many, or too few, and the rate falls.
     fn step(&mut self, crossings: &[Crossing; 64]) {
         let mut toll: usize = 0;
         let mut load = 0;

@@ -37,6 +37,7 @@ fn weight(length: usize) -> usize {
 
 // The worth of each request, and the greatest: what it brings above the least for the room that it takes. A longer one is worth less; and every one is given a
 // part above the least, so that a length counts with that one too. (Figures found by trying: docs/BENCH.md.)
+// The worths are lent: handed back with the greatest in a struct they were copied, and an order took a tenth more instructions (tried and slower).
 pub fn weigh(requests: &Requests, profits: Extremes, worths: &mut [usize; 256]) -> usize {
     let lift = profits.apart() / 16 + 1;
     let mut top = 0;
