@@ -23,14 +23,8 @@ pub fn deepen(dist: &mut [i64; 128], label: &[usize; 128], cells: usize, to: usi
     requires below { Below dist.old (suc cells) lowest }
     ensures { Deepened cells to label.now dist.old dist.new }
 {
-    // the whole array, so that its length is known
-    let whole = &dist[..];
-    let mut v = 0;
-    while v <= cells {
-        if label[v] < to {
-            dist[v] = dist[v] - (to - label[v]) as i64;
-        }
-        v += 1;
+    for v in 0..cells + 1 {
+        dist[v] -= to.saturating_sub(label[v]) as i64;
     }
 }
 

@@ -38,8 +38,7 @@ pub fn plan_row(
     let mut from = [0usize; 128];
     let mut list = [0usize; 128];
     steps::begin(cells, count, cost, room, dist);
-    let mut t = 0;
-    while t < count {
+    for t in 0..count {
         insert::insert(
             cells,
             t,
@@ -59,6 +58,5 @@ pub fn plan_row(
             &mut from,
             &mut list,
         );
-        t += 1;
     }
 }

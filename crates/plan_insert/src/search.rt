@@ -11,12 +11,10 @@ pub fn nearest(label: &[usize; 128], list: &[usize; 128], size: usize, floor: us
 {
     let mut best = size - 1;
     let mut least = label[list[best]];
-    let mut i = best;
-    while 0 < i {
+    for i in (0..best).rev() {
         if least == floor {
             return best;
         }
-        i -= 1;
         let far = label[list[i]];
         if far < least {
             best = i;
@@ -31,15 +29,8 @@ pub fn start(cells: usize, b: usize, most: usize, label: &mut [usize; 128], rank
     requires { (cells ≤ 127) × (b ≤ cells) }
     ensures { Fresh cells b most label.new rank.new }
 {
-    // the whole array, so that its length is known
-    let labels = &label[..];
-    let ranks = &rank[..];
-    let mut v = 0;
-    while v <= cells {
-        label[v] = most;
-        rank[v] = 0;
-        v += 1;
-    }
+    label[..cells + 1].fill(most);
+    rank[..cells + 1].fill(0);
     label[b] = 0;
 }
 

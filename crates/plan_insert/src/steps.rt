@@ -11,12 +11,8 @@ fn lowest_cost(count: usize, cost: &[i64; 256]) -> i64
     ensures { Fall result }
 {
     let mut low: i64 = 0;
-    let mut i = 0;
-    while i < count {
-        if cost[i] < low {
-            low = cost[i];
-        }
-        i += 1;
+    for c in &cost[..count] {
+        low = low.min(*c);
     }
     low
 }
@@ -37,13 +33,9 @@ fn lay(dist: &mut [i64; 128], room: &[usize; 128], cells: usize, fall: i64)
     requires { (cells ≤ 127) × Fall fall }
     ensures { Stepped cells room.now dist.new }
 {
-    // the whole array, so that its length is known
-    let whole = &dist[..];
     dist[0] = 0;
-    let mut j = 0;
-    while j < cells {
+    for j in 0..cells {
         dist[j + 1] = past(dist[j], room[j], fall);
-        j += 1;
     }
 }
 

@@ -7,4 +7,4 @@ pub loop-j-preserved : goal.loop-j-preserved
 loop-j-preserved c =
     let l = c.loop-j in
     let f : SFits w64 (get_or c.loop-j.dist c.loop-j.j (pos 0)) = search rules in
-    (omega arith, rw (add-one, back (known _ c.past.type_inv)) (stepped_more l.invariant.1 (omega arith) (rw (back f) at c.past.ensures)))
+    rw (add-one, back (known _ c.past.type_inv)) (stepped_more l.invariant (omega arith) (rw (back f) at c.past.ensures))
