@@ -1,4 +1,5 @@
 pub mod State
+pub mod Lent
 pub mod OpenList
 pub mod Relaxed
 pub mod CellArcs

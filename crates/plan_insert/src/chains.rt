@@ -1,74 +1,90 @@
 // The chains that a search follows: the dropped candidates by their first node, the kept ones by their last, each chain by falling number.
 ghost use Rattle.std.specs.Prelude.{◌≡◌, suc, ◌≤◌, ◌<◌, set};
-ghost use Rattle.plan_insert.specs.State.{at, Flagged, Chained};
+ghost use Rattle.plan_insert.specs.State.{at, Flagged};
 ghost use Rattle.plan_insert.specs.Joining.{CanPutIn, CanTakeOut, Moved, CanFollow, Above};
 
-// The last link above e of a chain, from link j on.
-pub fn last_above(next: &[usize; 256], j: usize, e: usize) -> usize
-    requires { CanFollow next.now j e }
-    ensures { (w : CanFollow next.now j e) → Above (Flagged w.side w.t w.kept) w.ends next.now (w.ends j) e result }
-{
-    let mut k = j;
-    while e + 1 < next[k] {
-        k = next[k] - 1;
-    }
-    k
+use crate::ground::{Row, Side};
+
+// Some candidates by one of their ends: head[v] is 1 past the latest one with its end at node v, next[j] 1 past the latest before j with the same end, and
+// 0 is none. Links are numbers in arrays, for nothing may allocate.
+#[derive(Drop)]
+pub struct Chain {
+    pub head: [usize; 128],
+    pub next: [usize; 256],
 }
 
-// Puts candidate e into the chain of node v.
-pub fn put_in(head: &mut [usize; 128], next: &mut [usize; 256], v: usize, e: usize)
-    requires { CanPutIn head.old next.old v e }
-    ensures { (w : CanPutIn head.old next.old v e) → Moved w.0 head.new next.new }
-{
-    // the whole array, so that its length is known
-    let heads = &head[..];
-    let nexts = &next[..];
-    let first = head[v];
-    if first <= e {
-        next[e] = first;
-        head[v] = e + 1;
-        return;
+impl Chain {
+    // The last link above e, from link j on.
+    fn last_above(&self, j: usize, e: usize) -> usize
+        requires { CanFollow self.now.next j e }
+        ensures { (w : CanFollow self.now.next j e) → Above (Flagged w.side w.t w.kept) w.ends self.now.next (w.ends j) e result }
+    {
+        let mut k = j;
+        while e + 1 < self.next[k] {
+            k = self.next[k] - 1;
+        }
+        k
     }
-    let j = last_above(next, first - 1, e);
-    next[e] = next[j];
-    next[j] = e + 1;
+
+    // Puts candidate e into the chain of node v.
+    pub fn put_in(&mut self, v: usize, e: usize)
+        requires { CanPutIn self.old.head self.old.next v e }
+        ensures { (w : CanPutIn self.old.head self.old.next v e) → Moved w.0 self.new.head self.new.next }
+    {
+        let first = self.head[v];
+        if first <= e {
+            self.next[e] = first;
+            self.head[v] = e + 1;
+            return;
+        }
+        let j = self.last_above(first - 1, e);
+        self.next[e] = self.next[j];
+        self.next[j] = e + 1;
+    }
+
+    // Takes candidate e out of the chain of node v.
+    pub fn take_out(&mut self, v: usize, e: usize)
+        requires { CanTakeOut self.old.head self.old.next v e }
+        ensures { (w : CanTakeOut self.old.head self.old.next v e) → Moved w.0 self.new.head self.new.next }
+    {
+        let first = self.head[v];
+        let after = self.next[e];
+        if first == e + 1 {
+            self.head[v] = after;
+            return;
+        }
+        let j = self.last_above(first - 1, e);
+        self.next[j] = after;
+    }
 }
 
-// Takes candidate e out of the chain of node v.
-pub fn take_out(head: &mut [usize; 128], next: &mut [usize; 256], v: usize, e: usize)
-    requires { CanTakeOut head.old next.old v e }
-    ensures { (w : CanTakeOut head.old next.old v e) → Moved w.0 head.new next.new }
-{
-    // the whole array, so that its length is known
-    let heads = &head[..];
-    let nexts = &next[..];
-    let first = head[v];
-    let after = next[e];
-    if first == e + 1 {
-        head[v] = after;
-        return;
-    }
-    let j = last_above(next, first - 1, e);
-    next[j] = after;
+// Both chains: the dropped candidates by their first node, where arcs along them start, and the kept ones by their last, where arcs back start.
+#[derive(Drop)]
+pub struct Sides {
+    pub dropped: Chain,
+    pub held: Chain,
 }
 
-// Keeps or drops candidate t, a new one, and puts it into its chain: by its last node where it stays, by its first where it does not.
-pub fn enter(
-    cells: usize,
-    t: usize,
-    ends: &[usize; 256],
-    kept: &mut [bool; 256],
-    head: &mut [usize; 128],
-    next: &mut [usize; 256],
-    stays: bool,
-)
-    requires cells_bound { (cells ≤ 127) × (t < 256) × (at ends.now t ≤ cells) }
-    requires chained { Chained cells (Flagged stays t kept.old) (at ends.now) head.old next.old }
-    ensures kept_after { kept.new ≡ set kept.old t stays }
-    ensures chained_2 { Chained cells (Flagged stays (suc t) kept.new) (at ends.now) head.new next.new }
-{
-    // the whole array, so that its length is known
-    let flags = &kept[..];
-    kept[t] = stays;
-    put_in(head, next, ends[t], t);
+impl Sides {
+    ghost use Rattle.plan_insert.specs.State.{Chains};
+    ghost use Rattle.plan_insert.specs.Lent.{stays, links_of};
+
+    // Keeps or drops candidate t, a new one: it goes into the chain of its last node where it is kept, of its first where it is dropped.
+    pub fn enter(&mut self, row: &Row, kept: &mut [bool; 256], t: usize, side: Side)
+        requires ends { (row.now.cells ≤ 127) × (t < 256) × (at row.now.lo.now t ≤ row.now.cells) × (at row.now.hi.now t ≤ row.now.cells) }
+        requires before { Chains row.now.cells t (at row.now.lo.now) (at row.now.hi.now) kept.old (links_of self.old) }
+        ensures kept_after { kept.new ≡ set kept.old t (stays side) }
+        ensures chained { Chains row.now.cells (suc t) (at row.now.lo.now) (at row.now.hi.now) kept.new (links_of self.new) }
+    {
+        match side {
+            Side::Dropped => {
+                kept[t] = false;
+                self.dropped.put_in(row.lo[t], t);
+            }
+            Side::Held => {
+                kept[t] = true;
+                self.held.put_in(row.hi[t], t);
+            }
+        }
+    }
 }

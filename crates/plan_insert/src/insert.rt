@@ -1,12 +1,14 @@
 // Inserting one candidate, and what goes with it.
 ghost use Rattle.std.specs.Prelude.{◌≡◌, suc, ◌+◌, ◌-◌, ◌≤◌};
 ghost use Rattle.base_signed.specs.Parts.{dn};
-ghost use Rattle.plan_insert.specs.State.{at, Below, links, Chains, Deepened, CanInsert, Standing, Gains, lowest};
+ghost use Rattle.plan_insert.specs.State.{at, Below, Deepened, CanInsert, Standing, Gains, lowest, Chains};
 
-use crate::{chains, search, walk};
+use crate::chains::Sides;
+use crate::ground::{Ground, Row, Side};
+use crate::search::Search;
 
 // What a candidate of this cost, between nodes at these distances, would gain: 0 where it is worth no more than its cells' prices.
-pub fn gain_of(cost: i64, near: i64, far: i64) -> usize
+fn gain_of(cost: i64, near: i64, far: i64) -> usize
     requires { Gains cost near far }
     ensures { result ≡ dn near + dn cost - dn far }
 {
@@ -18,7 +20,7 @@ pub fn gain_of(cost: i64, near: i64, far: i64) -> usize
 }
 
 // Lowers the distance of every node whose label is below `to` by what it lacks.
-pub fn deepen(dist: &mut [i64; 128], label: &[usize; 128], cells: usize, to: usize)
+fn deepen(dist: &mut [i64; 128], label: &[usize; 128], cells: usize, to: usize)
     requires cells_bound { (cells ≤ 127) × (to ≤ 1000000) }
     requires below { Below dist.old (suc cells) lowest }
     ensures { Deepened cells to label.now dist.old dist.new }
@@ -28,56 +30,57 @@ pub fn deepen(dist: &mut [i64; 128], label: &[usize; 128], cells: usize, to: usi
     }
 }
 
-// Inserts candidate t. The last five arrays are for its search: what they held before plays no part.
-pub fn insert(
-    cells: usize,
-    t: usize,
-    lo: &[usize; 256],
-    hi: &[usize; 256],
-    cost: &[i64; 256],
-    kept: &mut [bool; 256],
-    room: &mut [usize; 128],
-    dist: &mut [i64; 128],
-    head_lo: &mut [usize; 128],
-    next_lo: &mut [usize; 256],
-    head_hi: &mut [usize; 128],
-    next_hi: &mut [usize; 256],
-    label: &mut [usize; 128],
-    rank: &mut [usize; 128],
-    by: &mut [usize; 128],
-    from: &mut [usize; 128],
-    list: &mut [usize; 128],
-)
-    requires { CanInsert cells t lo.now hi.now cost.now kept.old room.old dist.old (links head_lo.old next_lo.old head_hi.old next_hi.old) }
-    ensures standing { (w : CanInsert cells t lo.now hi.now cost.now kept.old room.old dist.old (links head_lo.old next_lo.old head_hi.old next_hi.old)) → Standing w.limit w.count cells (suc t) lo.now hi.now cost.now kept.new room.new dist.new }
-    ensures chains { Chains cells (suc t) (at lo.now) (at hi.now) kept.new (links head_lo.new next_lo.new head_hi.new next_hi.new) }
-{
-    // the whole array, so that its length is known
-    let flags = &kept[..];
-    let a = lo[t];
-    let b = hi[t];
-    let gain = gain_of(cost[t], dist[a], dist[b]);
-    if gain == 0 {
-        chains::enter(cells, t, lo, kept, head_lo, next_lo, false);
-        return;
+// What planning a row keeps for itself from one insertion to the next, and what each search writes, made once.
+#[derive(Drop)]
+pub struct Planner {
+    pub chains: Sides,
+    pub search: Search,
+}
+
+impl Planner {
+    ghost use Rattle.plan_insert.specs.Lent.{links_of};
+
+    // Inserts candidate t.
+    pub fn insert(
+        &mut self,
+        row: &Row,
+        t: usize,
+        kept: &mut [bool; 256],
+        room: &mut [usize; 128],
+        dist: &mut [i64; 128],
+    )
+        requires { CanInsert row.now.cells t row.now.lo.now row.now.hi.now row.now.cost.now kept.old room.old dist.old (links_of self.old.chains) }
+        ensures standing { (w : CanInsert row.now.cells t row.now.lo.now row.now.hi.now row.now.cost.now kept.old room.old dist.old (links_of self.old.chains)) → Standing w.limit w.count row.now.cells (suc t) row.now.lo.now row.now.hi.now row.now.cost.now kept.new room.new dist.new }
+        ensures chains { Chains row.now.cells (suc t) (at row.now.lo.now) (at row.now.hi.now) kept.new (links_of self.new.chains) }
+    {
+        let a = row.lo[t];
+        let b = row.hi[t];
+        let gain = gain_of(row.cost[t], dist[a], dist[b]);
+        if gain == 0 {
+            self.chains.enter(row, kept, t, Side::Dropped);
+            return;
+        }
+        if base_lists::room_between(room, a, b) {
+            base_lists::take_room(room, a, b);
+            self.chains.enter(row, kept, t, Side::Held);
+            return;
+        }
+        let ground = Ground {
+            row: *row,
+            t,
+            kept,
+            room,
+            dist,
+            chains: &self.chains,
+        };
+        if self.search.find(&ground, a, b, gain) {
+            let near = self.search.marks.label[a];
+            deepen(dist, &self.search.marks.label, row.cells, near);
+            self.chains.enter(row, kept, t, Side::Held);
+            self.chains.walk_back(kept, room, &self.search, a, b);
+            return;
+        }
+        deepen(dist, &self.search.marks.label, row.cells, gain);
+        self.chains.enter(row, kept, t, Side::Dropped);
     }
-    if base_lists::room_between(room, a, b) {
-        base_lists::take_room(room, a, b);
-        chains::enter(cells, t, hi, kept, head_hi, next_hi, true);
-        return;
-    }
-    if search::search(
-        cells, t, lo, hi, cost, kept, room, dist, head_lo, next_lo, head_hi, next_hi, a, b, gain,
-        label, rank, by, from, list,
-    ) {
-        let near = label[a];
-        deepen(dist, label, cells, near);
-        chains::enter(cells, t, hi, kept, head_hi, next_hi, true);
-        walk::walk_back(
-            kept, room, head_lo, next_lo, head_hi, next_hi, rank, by, from, a, b,
-        );
-        return;
-    }
-    deepen(dist, label, cells, gain);
-    chains::enter(cells, t, lo, kept, head_lo, next_lo, false);
 }

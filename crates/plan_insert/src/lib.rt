@@ -2,14 +2,21 @@
 // minus its profit, an idle cell 0; a node's distance is never above 0, and no arc of the residual network can lower one any more.
 #![tactic(auto)]
 
-mod arcs;
 mod chains;
+mod ground;
 mod insert;
+mod marks;
 mod search;
 mod steps;
 mod walk;
 
 ghost use Rattle.plan_insert.specs.State.{at, CanPlan, Standing};
+
+use chains::{Chain, Sides};
+use ground::Row;
+use insert::Planner;
+use marks::Marks;
+use search::Search;
 
 // Plans a row of `cells` cells with `count` candidates: candidate i is over the cells lo[i] to hi[i] - 1 and costs minus its profit. `room` has
 // each cell's limit and ends as the room that is left, `kept` says which candidates are kept, and `dist` has each node's distance: the price of
@@ -27,36 +34,36 @@ pub fn plan_row(
     requires { CanPlan cells count lo.now hi.now cost.now room.old }
     ensures { Standing (at room.old) count cells count lo.now hi.now cost.now kept.new room.new dist.new }
 {
-    let mut head_lo = [0usize; 128];
-    let mut next_lo = [0usize; 256];
-    let mut head_hi = [0usize; 128];
-    let mut next_hi = [0usize; 256];
-    // what each search writes, made once
-    let mut label = [0usize; 128];
-    let mut rank = [0usize; 128];
-    let mut by = [0usize; 128];
-    let mut from = [0usize; 128];
-    let mut list = [0usize; 128];
+    let mut planner = Planner {
+        chains: Sides {
+            dropped: Chain {
+                head: [0; 128],
+                next: [0; 256],
+            },
+            held: Chain {
+                head: [0; 128],
+                next: [0; 256],
+            },
+        },
+        search: Search {
+            rank: [0; 128],
+            marks: Marks {
+                label: [0; 128],
+                by: [0; 128],
+                from: [0; 128],
+                list: [0; 128],
+                size: 0,
+            },
+        },
+    };
+    let row = Row {
+        cells,
+        lo,
+        hi,
+        cost,
+    };
     steps::begin(cells, count, cost, room, dist);
     for t in 0..count {
-        insert::insert(
-            cells,
-            t,
-            lo,
-            hi,
-            cost,
-            kept,
-            room,
-            dist,
-            &mut head_lo,
-            &mut next_lo,
-            &mut head_hi,
-            &mut next_hi,
-            &mut label,
-            &mut rank,
-            &mut by,
-            &mut from,
-            &mut list,
-        );
+        planner.insert(&row, t, kept, room, dist);
     }
 }

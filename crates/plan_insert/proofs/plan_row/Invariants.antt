@@ -1,10 +1,10 @@
 -- `plan_row` meets its contract. The loop's invariant: after t turns the row stands with its first t candidates, at the limits that `room` held
 -- on entry, and the chains hold just those, by their flags. Assumes nothing.
-use Rattle.plan_insert.specs.State.{at, links}
+use Rattle.plan_insert.specs.State.{at}
 use Rattle.plan_insert.specs.Planning.{Planning}
+use Rattle.plan_insert.specs.Lent.{links_of}
 use Rattle.plan_insert.proofs.plan_row.Given as goal
 
 abbrev pub invariant-loop-t : goal.invariant-loop-t
 invariant-loop-t l =
-    Planning (at l.initial.room) l.count l.cells l.t l.lo l.hi l.cost l.kept l.room l.dist (links l.head_lo l.next_lo l.head_hi l.next_hi)
-
+    Planning (at l.initial.room) l.count l.cells l.t l.lo l.hi l.cost l.kept l.room l.dist (links_of l.planner.chains)

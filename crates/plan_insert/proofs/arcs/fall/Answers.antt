@@ -1,7 +1,0 @@
--- From the first node there is no arc down, from another it is tried where the cell below has room: `CellArcs` has each way. Assumes nothing.
-use native.Mathlib.Omega.{arith}
-use Rattle.plan_insert.specs.CellArcs.{fall_relaxed}
-use Rattle.plan_insert.proofs.arcs.fall.Goals as goal
-
-pub returns-then-room-u-gt0 : goal.returns-then-room-u-gt0
-returns-then-room-u-gt0 c = fall_relaxed c.requires.ready (omega arith) (omega arith) (omega arith) c.try_arc.ensures

@@ -1,0 +1,74 @@
+// What an insertion and its search are given: the row with its candidates, and the flow after the first t of them.
+ghost use Rattle.std.specs.Prelude.{◌≡◌, ◌≤◌};
+ghost use Rattle.base_signed.specs.Parts.{up, dn};
+ghost use Rattle.plan_insert.specs.State.{at, Ready, cost_along, links, Chains, Flagged, ends_of, Chained};
+
+use crate::chains::{Chain, Sides};
+
+// The row's cells, and the candidates: candidate i is over the cells lo[i] to hi[i] - 1 and costs minus its profit.
+#[derive(Clone, Copy)]
+pub struct Row<'a> {
+    pub cells: usize,
+    pub lo: &'a [usize; 256],
+    pub hi: &'a [usize; 256],
+    pub cost: &'a [i64; 256],
+}
+
+// The flow after the first t candidates, as a search finds it, with the chains that lead it to its arcs.
+#[derive(Clone, Copy)]
+pub struct Ground<'a> {
+    pub row: Row<'a>,
+    pub t: usize,
+    pub kept: &'a [bool; 256],
+    pub room: &'a [usize; 128],
+    pub dist: &'a [i64; 128],
+    pub chains: &'a Sides,
+    ghost ready: { Ready row.cells t row.lo.now row.hi.now row.cost.now kept.now room.now dist.now },
+    ghost chained: { Chains row.cells t (at row.lo.now) (at row.hi.now) kept.now (links chains.now.dropped.head chains.now.dropped.next chains.now.held.head chains.now.held.next) },
+}
+
+impl Ground<'_> {
+    ghost use Rattle.plan_insert.specs.Lent.{stays};
+
+    // The chains of one side.
+    pub fn chain(&self, side: Side) -> &Chain
+        ensures { Chained self.now.row.cells (Flagged (stays side) self.now.t self.now.kept.now) (at (ends_of (stays side) self.now.row.lo.now self.now.row.hi.now)) result.now.head result.now.next }
+    {
+        match side {
+            Side::Dropped => &self.chains.dropped,
+            Side::Held => &self.chains.held,
+        }
+    }
+
+    // The nodes where the arcs of one side end.
+    pub fn far(&self, side: Side) -> &[usize; 256]
+        ensures { result.now ≡ ends_of (stays side) self.now.row.hi.now self.now.row.lo.now }
+    {
+        match side {
+            Side::Dropped => self.row.hi,
+            Side::Held => self.row.lo,
+        }
+    }
+}
+
+// An arc goes along a dropped candidate from its first node, or back along a kept one from its last.
+#[derive(Clone, Copy, Debug, PartialEq, Eq)]
+pub enum Side {
+    Dropped,
+    Held,
+}
+
+impl Side {
+    ghost use Rattle.plan_insert.specs.Lent.{stays};
+
+    // The cost of a candidate's arc: back along a kept one it counts the other way.
+    pub fn cost_along(self, cost: i64) -> i64
+        requires { (up cost ≤ 1000000) × (dn cost ≤ 1000000) }
+        ensures { result ≡ cost_along (stays self) cost }
+    {
+        match self {
+            Side::Dropped => cost,
+            Side::Held => -cost,
+        }
+    }
+}
