@@ -1,9 +1,9 @@
 -- The least label on a list, looked for from its end: among the nodes from place i on it is `least`, at place `best`. Each place either takes that of
 -- best or changes nothing, and a label that no other is below ends the search. Assumes nothing.
-use Rattle.std.specs.Prelude.{List, ◌≡◌, refl, ℕ, ◌-◌, ◌≤◌, ◌<◌}
+use Rattle.std.specs.Prelude.{List, ◌≡◌, refl, ℕ, ◌-◌, ◌≤◌, ◌<◌, set}
 use Rattle.std.proofs.Common.{⊎_elim, arith}
 use Rattle.base_sums.specs.Each.{same_or_not}
-use Rattle.plan_insert.specs.State.{at, CanChoose, Chosen}
+use Rattle.plan_insert.specs.State.{at, Marks, marks, CanChoose, Chosen}
 
 pub record LeastFrom (label list : List ℕ) (size i best least : ℕ) : Type 0 where
   pub reach : i ≤ best
@@ -32,3 +32,10 @@ module _ {label list : List ℕ} {size : ℕ} where
 
       pub least_stays : least ≤ at label (at list (i - 1)) → LeastFrom label list size (i - 1) best least
       least_stays far = record { reach = omega (arith, l.reach); inside = l.inside; label_is = l.label_is; lowest = one_more (omega arith) far }
+
+-- node u, which has the least label, is taken off the list, and the last node is put in its place
+pub record Taken (m m' : Marks) (u : ℕ) : Type 0 where
+  pub place : ℕ
+  pub chosen : Chosen m.label m.list m.size place
+  pub node : at m.list place ≡ u
+  pub after : m' ≡ marks m.label m.by m.from (set m.list place (at m.list (m.size - 1))) (m.size - 1)

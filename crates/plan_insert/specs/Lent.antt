@@ -1,24 +1,36 @@
--- The structs of the code as the records that the rest of the specs speaks of. Assumes nothing.
-use Rattle.std.specs.Prelude.{Bool, true, false}
-use Rattle.law_flow.specs.Searching as flow
+-- What the structs of the code hold, in the words of the other specs. Assumes nothing.
+use Rattle.std.specs.Prelude.{Bool, true, false, List, ℕ, ℤ}
+use Rattle.plan_insert.specs.State.{at, Links, links, marks, CanWalk, CanInsert, Standing}
 use Rattle.plan_insert.specs.State as state
-use Rattle.plan_insert.specs.State.{links, marks, ground_in}
 use Rattle.plan_insert.specs.declared.ground.Side.{Side}
 use Rattle.plan_insert.specs.declared.ground.Side.TheVariants.{Dropped, Held}
-use Rattle.plan_insert.specs.declared.ground.Ground.{Ground}
+use Rattle.plan_insert.specs.declared.ground.Row.{Row}
 use Rattle.plan_insert.specs.declared.chains.Sides.{Sides}
 use Rattle.plan_insert.specs.declared.marks.Marks.{Marks}
+use Rattle.plan_insert.specs.declared.search.Search.{Search}
 
 -- the flag of a side
 abbrev pub stays : Side → Bool
 stays Dropped = false
 stays Held = true
 
-abbrev pub links_of : Sides → state.Links
+abbrev pub links_of : Sides → Links
 links_of c = links c.dropped.head c.dropped.next c.held.head c.held.next
 
 abbrev pub marks_of : Marks → state.Marks
 marks_of m = marks m.label m.by m.from m.list m.size
 
-abbrev pub ground_of : Ground → flow.Ground
-ground_of g = ground_in g.row.cells g.t g.row.lo.now g.row.hi.now g.row.cost.now g.kept.now g.room.now g.dist.now
+-- the chains hold the row's first t candidates, by their flags
+abbrev pub Chained : Row → ℕ → List Bool → Sides → Type 0
+Chained row t kept c = state.Chains row.cells t (at row.lo.now) (at row.hi.now) kept (links_of c)
+
+-- candidate t of the row can be inserted, and the row as it stands after t candidates
+abbrev pub Insertable : Row → ℕ → List Bool → List ℕ → List ℤ → Sides → Type 0
+Insertable row t kept room dist c = CanInsert row.cells t row.lo.now row.hi.now row.cost.now kept room dist (links_of c)
+
+abbrev pub Stands : (ℕ → ℕ) → ℕ → Row → ℕ → List Bool → List ℕ → List ℤ → Type 0
+Stands limit count row t kept room dist = Standing limit count row.cells t row.lo.now row.hi.now row.cost.now kept room dist
+
+-- the way that was found can be walked back from a to b
+abbrev pub Walkable : List Bool → List ℕ → Sides → Search → ℕ → ℕ → Type 0
+Walkable kept room c found a b = CanWalk kept room (links_of c) found.rank found.marks.by found.marks.from a b

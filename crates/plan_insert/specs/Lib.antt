@@ -1,5 +1,6 @@
 pub mod State
 pub mod Lent
+pub mod Grounds
 pub mod OpenList
 pub mod Relaxed
 pub mod CellArcs

@@ -10,6 +10,7 @@ use Rattle.law_flow.specs.Searching.{Ground, DeepAt, Searching}
 use Rattle.law_flow.specs.SearchSteps.{search_start, settle, spread_done}
 use Rattle.law_flow.specs.Ends.{reached, unreached}
 use Rattle.plan_insert.specs.State.{at, Marks, marks, Listed, CanChoose, Chosen, Underway, Spreads, Nothing, AllDone, Fresh, Searched}
+use Rattle.plan_insert.specs.Least.{Taken}
 use Rattle.plan_insert.specs.OpenList.{listed_start, listed_upto, listed_take}
 use Rattle.plan_insert.specs.OpenNodes.{open_nodes, open_all, open_less}
 
@@ -108,3 +109,18 @@ module _ {g : Ground} {a b most floor clock : ℕ} {rank : List ℕ} {m : Marks}
 
         done : Searching g b most (at m'.label) (at (set rank u clock)) (at m'.by) (at m'.from) (suc clock)
         done = spread_done spread.0
+
+  -- no node was on the list
+  pub none_taken : {m' : Marks} → (m.size ≡ 0) × (m' ≡ m) → DeepAt g → Proper g.row g.t → a ≤ g.row.cells → Searched g a b most m'.label rank m'.by m'.from false
+  none_taken e deep proper node = rw e.1 (look_lost deep proper node e.0)
+
+  -- node u was taken off it
+  module _ {m' : Marks} {u : ℕ} (t : Taken m m' u) where
+    pub taken_node : u ≤ g.row.cells
+    taken_node = rw t.node at (look_node t.chosen)
+
+    pub taken_found : DeepAt g → Proper g.row g.t → u ≡ a → Searched g a b most m'.label (set rank u clock) m'.by m'.from true
+    taken_found deep proper q = rw (← t.node, t.after) (look_found t.chosen deep proper (t.node ∙ q))
+
+    pub taken_on : {m'' : Marks} → (u ≡ a → ⊥) → Spreads g most Nothing AllDone u m' m'' → Looking g a b most (set rank u clock) m'' (at m''.label u) (clock + 1)
+    taken_on n s = rw (← t.node) (look_on t.chosen (λ q. n (sym t.node ∙ q)) (rw (← t.node, t.after) at s))

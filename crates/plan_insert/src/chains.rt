@@ -43,7 +43,7 @@ impl Chain {
     }
 
     // Takes candidate e out of the chain of node v.
-    pub fn take_out(&mut self, v: usize, e: usize)
+    fn take_out(&mut self, v: usize, e: usize)
         requires { CanTakeOut self.old.head self.old.next v e }
         ensures { (w : CanTakeOut self.old.head self.old.next v e) → Moved w.0 self.new.head self.new.next }
     {
@@ -56,6 +56,17 @@ impl Chain {
         let j = self.last_above(first - 1, e);
         self.next[j] = after;
     }
+
+    // Candidate e leaves the chain of node u here for that of node v among the others.
+    pub fn pass(&mut self, others: &mut Chain, e: usize, u: usize, v: usize)
+        requires out { CanTakeOut self.old.head self.old.next u e }
+        requires into { CanPutIn others.old.head others.old.next v e }
+        ensures left { (w : CanTakeOut self.old.head self.old.next u e) → Moved w.0 self.new.head self.new.next }
+        ensures joined { (w : CanPutIn others.old.head others.old.next v e) → Moved w.0 others.new.head others.new.next }
+    {
+        self.take_out(u, e);
+        others.put_in(v, e);
+    }
 }
 
 // Both chains: the dropped candidates by their first node, where arcs along them start, and the kept ones by their last, where arcs back start.
@@ -66,15 +77,14 @@ pub struct Sides {
 }
 
 impl Sides {
-    ghost use Rattle.plan_insert.specs.State.{Chains};
-    ghost use Rattle.plan_insert.specs.Lent.{stays, links_of};
+    ghost use Rattle.plan_insert.specs.Lent.{stays, Chained};
 
     // Keeps or drops candidate t, a new one: it goes into the chain of its last node where it is kept, of its first where it is dropped.
     pub fn enter(&mut self, row: &Row, kept: &mut [bool; 256], t: usize, side: Side)
         requires ends { (row.now.cells ≤ 127) × (t < 256) × (at row.now.lo.now t ≤ row.now.cells) × (at row.now.hi.now t ≤ row.now.cells) }
-        requires before { Chains row.now.cells t (at row.now.lo.now) (at row.now.hi.now) kept.old (links_of self.old) }
+        requires before { Chained row.now t kept.old self.old }
         ensures kept_after { kept.new ≡ set kept.old t (stays side) }
-        ensures chained { Chains row.now.cells (suc t) (at row.now.lo.now) (at row.now.hi.now) kept.new (links_of self.new) }
+        ensures chained { Chained row.now (suc t) kept.new self.new }
     {
         match side {
             Side::Dropped => {

@@ -1,7 +1,7 @@
 // Inserting one candidate, and what goes with it.
 ghost use Rattle.std.specs.Prelude.{◌≡◌, suc, ◌+◌, ◌-◌, ◌≤◌};
 ghost use Rattle.base_signed.specs.Parts.{dn};
-ghost use Rattle.plan_insert.specs.State.{at, Below, Deepened, CanInsert, Standing, Gains, lowest, Chains};
+ghost use Rattle.plan_insert.specs.State.{Below, Deepened, Gains, lowest};
 
 use crate::chains::Sides;
 use crate::ground::{Ground, Row, Side};
@@ -38,7 +38,7 @@ pub struct Planner {
 }
 
 impl Planner {
-    ghost use Rattle.plan_insert.specs.Lent.{links_of};
+    ghost use Rattle.plan_insert.specs.Lent.{Chained, Insertable, Stands};
 
     // Inserts candidate t.
     pub fn insert(
@@ -49,9 +49,9 @@ impl Planner {
         room: &mut [usize; 128],
         dist: &mut [i64; 128],
     )
-        requires { CanInsert row.now.cells t row.now.lo.now row.now.hi.now row.now.cost.now kept.old room.old dist.old (links_of self.old.chains) }
-        ensures standing { (w : CanInsert row.now.cells t row.now.lo.now row.now.hi.now row.now.cost.now kept.old room.old dist.old (links_of self.old.chains)) → Standing w.limit w.count row.now.cells (suc t) row.now.lo.now row.now.hi.now row.now.cost.now kept.new room.new dist.new }
-        ensures chains { Chains row.now.cells (suc t) (at row.now.lo.now) (at row.now.hi.now) kept.new (links_of self.new.chains) }
+        requires { Insertable row.now t kept.old room.old dist.old self.old.chains }
+        ensures standing { (w : Insertable row.now t kept.old room.old dist.old self.old.chains) → Stands w.limit w.count row.now (suc t) kept.new room.new dist.new }
+        ensures chains { Chained row.now (suc t) kept.new self.new.chains }
     {
         let a = row.lo[t];
         let b = row.hi[t];

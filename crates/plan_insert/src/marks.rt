@@ -1,5 +1,5 @@
 // The arcs out of a node that has been settled, and the labels that they shorten.
-ghost use Rattle.std.specs.Prelude.{◌≡◌, suc, ◌+◌, ◌≤◌, ◌<◌, get_or, set, pos};
+ghost use Rattle.std.specs.Prelude.{◌≡◌, suc, ◌+◌, ◌≤◌, ◌<◌, get_or, set, pos, MatchOption};
 ghost use Rattle.base_signed.specs.Parts.{up, dn};
 ghost use Rattle.plan_insert.specs.State.{at, Relaxation, Lacks, Tried, Spreads, Nothing, UpDone, CellsDone, AllDone, DoneFrom, NoneDone, CanChoose, Chosen};
 
@@ -29,7 +29,9 @@ pub struct Marks {
 }
 
 impl Marks {
-    ghost use Rattle.plan_insert.specs.Lent.{stays, marks_of, ground_of};
+    ghost use Rattle.plan_insert.specs.Grounds.{ground_of};
+    ghost use Rattle.plan_insert.specs.Least.{Taken};
+    ghost use Rattle.plan_insert.specs.Lent.{stays, marks_of};
 
     // Puts node v at the end of the list. The list is never full, and no caller has to know that.
     fn enlist(&mut self, v: usize)
@@ -123,7 +125,7 @@ impl Marks {
     }
 
     // Where on the list a node with the least label is: looked for from the end, and no further than a label that is as low as any can be.
-    pub fn nearest(&self, floor: usize) -> usize
+    fn nearest(&self, floor: usize) -> usize
         requires { CanChoose self.now.label self.now.list self.now.size floor }
         ensures { Chosen self.now.label self.now.list self.now.size result }
     {
@@ -140,5 +142,21 @@ impl Marks {
             }
         }
         best
+    }
+
+    // Takes a node with the least label off the list: none where it is empty. No label on it is below `floor`.
+    pub fn take(&mut self, floor: usize) -> Option<usize>
+        requires upto { self.old.size ≤ 128 }
+        requires choice { 0 < self.old.size → CanChoose self.old.label self.old.list self.old.size floor }
+        ensures { MatchOption result ((self.old.size ≡ 0) × (marks_of self.new ≡ marks_of self.old)) (λ u. Taken (marks_of self.old) (marks_of self.new) u) }
+    {
+        if self.size == 0 {
+            return None;
+        }
+        let i = self.nearest(floor);
+        let u = self.list[i];
+        self.size -= 1;
+        self.list[i] = self.list[self.size];
+        Some(u)
     }
 }

@@ -13,7 +13,7 @@ pub struct Search {
 }
 
 impl Search {
-    ghost use Rattle.plan_insert.specs.Lent.{ground_of};
+    ghost use Rattle.plan_insert.specs.Grounds.{ground_of};
 
     // Every node open, b at 0 and the others at `most`.
     fn start(&mut self, cells: usize, b: usize, most: usize)
@@ -36,11 +36,7 @@ impl Search {
         // the label of the last node settled
         let mut floor = 0;
         let mut clock = 1;
-        while 0 < self.marks.size {
-            let i = self.marks.nearest(floor);
-            let u = self.marks.list[i];
-            self.marks.size -= 1;
-            self.marks.list[i] = self.marks.list[self.marks.size];
+        while let Some(u) = self.marks.take(floor) {
             self.rank[u] = clock;
             if u == a {
                 return true;

@@ -1,7 +1,7 @@
 // The walk back from a to b along the arcs of a search, each of which is flipped.
 ghost use Rattle.std.specs.Prelude.{ℕ};
 ghost use Rattle.law_row.specs.Row.{Row};
-ghost use Rattle.plan_insert.specs.State.{at, flag, CanWalk, CanFlip, CanTurn, Flipped, TurnedRound, Chains};
+ghost use Rattle.plan_insert.specs.State.{at, flag, CanFlip, CanTurn, Flipped, TurnedRound, Chains};
 ghost use Rattle.law_flow.specs.Balanced.{Balanced};
 
 use crate::chains::Sides;
@@ -9,7 +9,7 @@ use crate::marks::{DOWN, UP};
 use crate::search::Search;
 
 impl Sides {
-    ghost use Rattle.plan_insert.specs.Lent.{links_of};
+    ghost use Rattle.plan_insert.specs.Lent.{links_of, Walkable};
 
     // Flips the arcs from a back to b: a dropped candidate is kept and a kept one dropped, a cell passed upwards gains room and one passed downwards
     // loses it.
@@ -21,9 +21,9 @@ impl Sides {
         a: usize,
         b: usize,
     )
-        requires { CanWalk kept.old room.old (links_of self.old) found.now.rank found.now.marks.by found.now.marks.from a b }
-        ensures balanced { (w : CanWalk kept.old room.old (links_of self.old) found.now.rank found.now.marks.by found.now.marks.from a b) → Balanced w.row w.t (flag kept.new) (at room.new) w.N }
-        ensures chains { (w : CanWalk kept.old room.old (links_of self.old) found.now.rank found.now.marks.by found.now.marks.from a b) → Chains w.row.cells w.t w.row.lo w.row.hi kept.new (links_of self.new) }
+        requires { Walkable kept.old room.old self.old found.now a b }
+        ensures balanced { (w : Walkable kept.old room.old self.old found.now a b) → Balanced w.row w.t (flag kept.new) (at room.new) w.N }
+        ensures chains { (w : Walkable kept.old room.old self.old found.now a b) → Chains w.row.cells w.t w.row.lo w.row.hi kept.new (links_of self.new) }
     {
         let mut v = a;
         while v != b {
@@ -59,12 +59,10 @@ impl Sides {
     {
         if kept[e] {
             kept[e] = false;
-            self.held.take_out(u, e);
-            self.dropped.put_in(v, e);
-            return;
+            self.held.pass(&mut self.dropped, e, u, v);
+        } else {
+            kept[e] = true;
+            self.dropped.pass(&mut self.held, e, u, v);
         }
-        kept[e] = true;
-        self.dropped.take_out(u, e);
-        self.held.put_in(v, e);
     }
 }
