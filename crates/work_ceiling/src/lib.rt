@@ -15,18 +15,14 @@ fn rent(spans: usize, limits: &[usize; 64], prices: &[usize; 64], toll: &mut [us
     requires { Payable spans limits.now prices.now }
     ensures { Tolled spans limits.now (at prices.now) toll.new result }
 {
-    // the whole array, so that its length is known
-    let all = &toll[..];
     toll[0] = 0;
     let mut sum = 0;
     let mut rented = 0;
-    let mut s = 0;
-    while s < spans {
+    for s in 0..spans {
         let price = prices[s];
         sum += price;
         rented += limits[s] * price;
         toll[s + 1] = sum;
-        s += 1;
     }
     rented
 }
@@ -36,7 +32,7 @@ fn fare_of(a: usize, b: usize, toll: &[usize; 64]) -> usize
     requires { (a < 64) × (b < 64) × (at toll.now (min a b) ≤ at toll.now (max a b)) }
     ensures { result ≡ at toll.now (max a b) - at toll.now (min a b) }
 {
-    toll[base_numbers::higher(a, b)] - toll[base_numbers::lower(a, b)]
+    toll[a.max(b)] - toll[a.min(b)]
 }
 
 // What all requests, kept or not, have above the prices they cross.
@@ -51,11 +47,9 @@ fn surplus(
     ensures { result ≡ Σ count (gain_at a.now b.now profit.now toll.now) }
 {
     let mut sum = 0;
-    let mut i = 0;
-    while i < count {
+    for i in 0..count {
         let fare = fare_of(a[i], b[i], toll);
-        sum += base_numbers::less(profit[i], fare);
-        i += 1;
+        sum += profit[i].saturating_sub(fare);
     }
     sum
 }
