@@ -35,13 +35,8 @@ fn turn_ends(n: usize, j: usize, count: usize, ends: &[usize; 256], turned: &mut
     requires { Nodes n j count ends.now }
     ensures { Filled (λ i. C.steps n (j + 1) (at ends.now i)) count turned.new }
 {
-    // the whole array, so that its length is known
-    let whole = &turned[..];
-    let from = j + 1;
-    let mut i = 0;
-    while i < count {
-        turned[i] = steps(n, from, ends[i]);
-        i += 1;
+    for i in 0..count {
+        turned[i] = steps(n, j + 1, ends[i]);
     }
 }
 
@@ -50,13 +45,8 @@ pub fn turn_limits(n: usize, j: usize, limits: &[usize; 64], turned: &mut [usize
     requires { (j < n) × (n ≤ 64) }
     ensures { Filled (λ t. at limits.now (C.span_at n j t)) (n - 1) turned.new }
 {
-    // the whole array, so that its length is known
-    let whole = &turned[..];
-    let last = n - 1;
-    let mut t = 0;
-    while t < last {
+    for t in 0..n - 1 {
         turned[t] = limits[span_at(n, j, t)];
-        t += 1;
     }
 }
 

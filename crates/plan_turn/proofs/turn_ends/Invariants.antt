@@ -1,6 +1,6 @@
 -- `plan_turn::turn_ends` meets its contract: the first i ends are turned, and a store turns the next one. Assumes nothing.
 use mathlib.Core.Path.{◌≡◌}
-use Prim.Native.Nat.{◌+◌, ◌-◌, ◌≤◌}
+use Prim.Native.Nat.{◌+◌}
 use lib.ListN.{length}
 use Rattle.base_sums.specs.Filled.{Filled}
 use Rattle.paper_book.specs.Columns.{at}
@@ -8,7 +8,4 @@ use Rattle.paper_rules.specs.Cuts.{steps}
 use Rattle.plan_turn.proofs.turn_ends.Given as goal
 
 abbrev pub invariant-loop-i : goal.invariant-loop-i
-invariant-loop-i l = (l.i ≤ l.count) × (length l.turned ≡ 256) × (l.from ≡ l.j + 1) × Filled (λ k. steps l.n (l.j + 1) (at l.ends k)) l.i l.turned
-
-abbrev pub decreases-loop-i : goal.decreases-loop-i
-decreases-loop-i l = l.count - l.i
+invariant-loop-i l = (length l.turned ≡ 256) × Filled (λ k. steps l.n (l.j + 1) (at l.ends k)) l.i l.turned
