@@ -1,16 +1,33 @@
 -- Where the latest connection on each channel ends. Turns go by first node, so a channel is held past a node exactly where its latest connection reaches past
 -- it: no earlier one on it ends later. One that has its turn on a channel free at its node becomes the latest there. Assumes nothing.
-use Rattle.std.specs.Prelude.{Bool, true, List, ◌≡◌, ℕ, ◌+◌, ◌≤◌, ◌<◌, set, replicate, length, ltb}
-use Rattle.std.proofs.Common.{⊎_elim, sym, ◌∙◌, arith, length-set}
+use Rattle.std.specs.Prelude.{Bool, true, List, ◌≡◌, ℕ, ◌+◌, ◌≤◌, ◌<◌, set, replicate, length, ltb, Option, None, Some, MatchOption}
+use Rattle.std.proofs.Common.{⊎_elim, sym, ◌∙◌, arith, length-set, lt-ltb}
 use Rattle.std.proofs.lemmas.List.{length-replicate}
 use Rattle.base_sums.specs.At.{zeros, Stored, store}
 use Rattle.base_sums.specs.Each.{same_or_not}
+use borrow.Author.Tests.{le-ltb}
+use Rattle.base_sums.specs.Lowest.{lowest_free, lowest_is}
 use Rattle.plan_channels.specs.HandOut.{at, flag}
 use Rattle.plan_channels.specs.Had.{Had, SameHad, had_newer, had_older, had_own, had_apart}
 
 -- channel c is held past node `from`
 abbrev pub held_past : List ℕ → ℕ → ℕ → Bool
 held_past ends from c = ltb from (at ends c)
+
+-- the lowest free one of the channels 1 to k was found, or none of them is free
+abbrev pub LowestFound : ℕ → (ℕ → Bool) → Option ℕ → Type 0
+LowestFound k held found = MatchOption found (k < lowest_free k held) (λ c. (c ≡ lowest_free k held) × (c ≤ k))
+
+-- the first of them whose latest connection ends no later than `from` is found so
+pub lowest_found :
+    (k : ℕ) (ends : List ℕ) (from : ℕ) (found : Option ℕ)
+    → MatchOption found ((c : ℕ) → 1 ≤ c → c < k + 1 → from < at ends c) (λ c. (1 ≤ c) × (c < k + 1) × (at ends c ≤ from) × ((d : ℕ) → 1 ≤ d → d < c → from < at ends d))
+    → LowestFound k (held_past ends from) found
+lowest_found k ends from None held =
+    let past = lowest_is k (held_past ends from) (k + 1) (omega arith) (omega arith) (λ l. absurd (omega arith)) (λ d one l. lt-ltb _ _ (held d one l)) in
+    omega arith
+lowest_found k ends from (Some c) (one, upto, free, held) =
+    (sym (lowest_is k (held_past ends from) c one (omega arith) (λ l. le-ltb _ _ free) (λ d from l. lt-ltb _ _ (held d from l))), omega arith)
 
 -- of those that had their turn none on a channel ends past the end remembered for it, and one ends there, unless it is 0
 pub record Latest (size count : ℕ) (lo hi : List ℕ) (flags : List Bool) (channel ends : List ℕ) (v i : ℕ) : Type 0 where

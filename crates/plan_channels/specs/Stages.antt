@@ -1,7 +1,10 @@
 -- Channels are given in the order of the rule, by first cell, then by number. When a turn in that order has come, exactly the kept ones that had theirs
 -- have a channel, and it is the one that the rule gives them; past the last cell all kept ones are before, so they follow the rule. Assumes nothing.
-use Rattle.std.specs.Prelude.{Bool, true, false, List, ◌≡◌, refl, ℕ, ◌+◌, ◌≤◌, ◌<◌, replicate, length}
+use Rattle.std.specs.Prelude.{Bool, true, false, List, ◌++◌, ◌≡◌, refl, ℕ, ◌+◌, ◌≤◌, ◌<◌, replicate, length}
 use Rattle.std.proofs.Common.{⊎_elim, sym, ◌∙◌, arith}
+use Rattle.std.proofs.Math.ListN.{get_or-append}
+use Rattle.std.proofs.lemmas.List.{length-replicate}
+use Rattle.base_sums.specs.At.{zeros}
 use Rattle.base_sums.specs.Each.{of_yes, less_or_not}
 use Rattle.base_sums.specs.Filled.{Filled}
 use Rattle.base_sums.specs.Lowest.{lowest_free}
@@ -67,6 +70,12 @@ module _ {cells count k : ℕ} {lo hi : List ℕ} {kept : List Bool} {channel en
   -- every number had its turn at node v
   pub stage_next : count ≤ i → i ≤ 256 → Stage cells count k lo hi kept channel ends (v + 1) 0
   stage_next past upto = stage_same (had_next s.can.count_upto past upto)
+
+-- channels of which the first `count` were cleared
+pub cleared : {count : ℕ} {part : List ℕ} → part ≡ replicate count 0 → (rest : List ℕ) → Filled (λ j. 0) count (part ++ rest)
+cleared {count} e rest = record {
+  is = λ j l. rw e (get_or-append (replicate count 0) rest 0 j (rw (length-replicate {A = ℕ} count 0) l) ∙ zeros count j);
+}
 
 module _ {cells count k : ℕ} {lo hi : List ℕ} {kept : List Bool} {channel : List ℕ} where
   pub stage_start : CanHandOut cells count k lo hi kept → length channel ≡ 256 → Filled (λ j. 0) count channel → Stage cells count k lo hi kept channel (replicate 128 0) 0 0

@@ -7,7 +7,7 @@ ghost use Rattle.base_sums.specs.At.{NumbersBelow};
 ghost use Rattle.base_sums.specs.Filled.{Filled};
 ghost use Rattle.base_sums.specs.Lowest.{lowest_free};
 ghost use Rattle.plan_channels.specs.HandOut.{CanHandOut, HandedOut};
-ghost use Rattle.plan_channels.specs.Latest.{held_past};
+ghost use Rattle.plan_channels.specs.Latest.{held_past, LowestFound};
 ghost use Rattle.plan_channels.specs.Lists.{ListedByNode};
 ghost use Rattle.plan_channels.specs.Stages.{Stage, NodeGiven};
 
@@ -18,19 +18,12 @@ pub enum Given {
     NoneLeft(usize),
 }
 
-// The lowest of the channels 1 to k whose latest connection ends no later than node `from`, or k + 1.
-fn lowest_past(k: usize, ends: &[usize; 128], from: usize) -> usize
+// The lowest of the channels 1 to k whose latest connection ends no later than node `from`.
+fn lowest_past(k: usize, ends: &[usize; 128], from: usize) -> Option<usize>
     requires { k ≤ 96 }
-    ensures { result ≡ lowest_free k (held_past ends.now from) }
+    ensures { LowestFound k (held_past ends.now from) result }
 {
-    let mut c = 1;
-    while c <= k {
-        if ends[c] <= from {
-            return c;
-        }
-        c += 1;
-    }
-    c
+    (1..k + 1).find(|&c| ends[c] <= from)
 }
 
 // Lists the kept ones by first node, in rising number: `first` leads to a node's first one, `after` from each to the next; `count` and more is none.
@@ -46,15 +39,12 @@ pub fn begin_lists(
     ensures { ListedByNode count 0 lo.now kept.now first.new after.new }
 {
     // from the highest number down, so that each comes in front of the higher ones
-    let mut i = count;
-    while 0 < i {
-        let e = i - 1;
+    for e in (0..count).rev() {
         if kept[e] {
             let v = lo[e];
             after[e] = first[v];
             first[v] = e;
         }
-        i -= 1;
     }
 }
 
@@ -79,27 +69,14 @@ fn give_from(
 {
     let mut i = first[v];
     while i < count {
-        let c = lowest_past(k, ends, v);
-        if k < c {
+        let Some(c) = lowest_past(k, ends, v) else {
             return Given::NoneLeft(i);
-        }
+        };
         channel[i] = c;
         ends[c] = hi[i];
         i = after[i];
     }
     Given::All
-}
-
-// Gives each of the first `count` the channel 0, which is none. It takes a slice, since lending the array as one tells how long it is.
-fn clear(count: usize, channel: &mut [usize])
-    requires { count ≤ length channel.old }
-    ensures { Filled (λ j. 0) count channel.new }
-{
-    let mut j = 0;
-    while j < count {
-        channel[j] = 0;
-        j += 1;
-    }
 }
 
 // Gives every kept one of the first `count` its channel, and every other one 0.
@@ -115,21 +92,19 @@ pub fn hand_out(
     requires { CanHandOut cells count k lo.now hi.now kept.now }
     ensures { HandedOut cells count k lo.now hi.now kept.now result channel.new }
 {
-    clear(count, channel);
+    channel[..count].fill(0);
     // 256 leads to none: every number is below it
     let mut first = [256; 128];
     let mut after = [0; 256];
     begin_lists(count, lo, kept, &mut first, &mut after);
     let mut ends = [0; 128];
-    let mut v = 0;
-    while v < cells {
+    for v in 0..cells {
         let given = give_from(
             v, count, k, lo, hi, kept, &first, &after, channel, &mut ends,
         );
         let Given::All = given else {
             return given;
         };
-        v += 1;
     }
     Given::All
 }

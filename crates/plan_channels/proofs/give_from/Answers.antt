@@ -7,25 +7,23 @@ use Rattle.plan_channels.specs.Turns.{turn_enough, turn_gives}
 use Rattle.plan_channels.proofs.give_from.Goals as goal
 
 -- one of 1 to k is always left, so this way is not taken
-pub returns-then-k-c : goal.returns-then-k-c
-returns-then-k-c c =
-    let here = c in
-    let pre = here.requires in
-    let stage = here.loop-i.invariant.2 pre.by_index.0 pre.by_index.1 in
-    let own = here.loop-i.invariant.1 (omega arith) in
+pub returns-in_default : goal.returns-in_default
+returns-in_default c =
+    let pre = c.requires in
+    let stage = c.loop-i.invariant.2 pre.by_index.0 pre.by_index.1 in
+    let own = c.loop-i.invariant.1 (omega arith) in
     let enough = turn_enough stage (omega arith) own.0 own.1 in
-    absurd (omega (arith, c.lowest_past-c.ensures))
+    let none = c.in_default.ensures in
+    absurd (omega arith)
 
 pub loop-i-preserved : goal.loop-i-preserved
 loop-i-preserved c =
-    let next : let here = c in
-    let args = here.args in
-    Leads args.count (here.loop-i.i + 1) args.v args.lo.now args.kept.now (at args.after.now here.loop-i.i) = let here = c in
-    let own = here.loop-i.invariant.1 (omega arith) in
-    rw own.1 at (here.requires.listed_by_node.next here.loop-i.i (omega arith) (omega arith) own.0) in
-    let here = c in
-    let own = here.loop-i.invariant.1 (omega arith) in (
+    let args = c.args in
+    let own = c.loop-i.invariant.1 (omega arith) in
+    let next : Leads args.count (c.loop-i.i + 1) args.v args.lo.now args.kept.now (at args.after.now c.loop-i.i) =
+    rw own.1 at (c.requires.listed_by_node.next c.loop-i.i (omega arith) (omega arith) own.0)
+    in (
       next.upto,
       next.here,
-      λ cells s. rw c.lowest_past-c.ensures (stage_pass (turn_gives (here.loop-i.invariant.2 cells s) (omega arith) own.0 own.1) next),
+      λ cells s. rw c.in-Some.ensures.0 (stage_pass (turn_gives (c.loop-i.invariant.2 cells s) (omega arith) own.0 own.1) next),
     )

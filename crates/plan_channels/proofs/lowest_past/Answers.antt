@@ -1,19 +1,15 @@
-use mathlib.Core.Path.{sym}
-use Prim.Native.Nat.{◌≤◌}
-use native.Mathlib.Omega.{arith}
-use borrow.Author.Tests.{le-ltb}
-use Rattle.base_sums.specs.Lowest.{lowest_is}
+-- `plan_channels::lowest_past` meets its contract: the first number from 1 to k at which the latest connection ends no later than the node is the lowest free
+-- channel. Assumes nothing.
+use Rattle.std.proofs.Common.{rules, tests, ◌≤◌, ◌<◌}
+use Rattle.std.proofs.lemmas.Iterator.{first_from_Range}
 use Rattle.plan_channels.specs.HandOut.{at}
+use Rattle.plan_channels.specs.Latest.{lowest_found}
 use Rattle.plan_channels.proofs.lowest_past.Goals as goal
-
-pub returns-then-ends-c : goal.returns-then-ends-c
-returns-then-ends-c c =
-    let here = c.loop-c in
-    let args = c.args in
-    let ended : at args.ends.now here.c ≤ args.from = omega arith in
-    sym (lowest_is _ _ here.c (omega arith) (omega arith) (λ l. le-ltb _ _ ended) (λ d one l. here.invariant.2 d l one))
 
 pub returns : goal.returns
 returns c =
-    let here = c.loop-c in
-    sym (lowest_is _ _ here.c (omega arith) (omega arith) (λ l. absurd (omega arith)) (λ d one l. here.invariant.2 d l one))
+    let ends = c.args.ends.now in
+    lowest_found _ _ _ _
+    (first_from_Range _ _ _ _ (λ d. at ends d ≤ c.args.from) (λ d. c.args.from < at ends d) c.find.ensures.ran
+    (λ d f called. search (rules, tests))
+    (λ d f called. (search rules, search (rules, tests))))
