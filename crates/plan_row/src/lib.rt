@@ -21,16 +21,10 @@ fn lay(
     requires { NumbersUpto 1000000 count profit.now }
     ensures { Candidates count a.now b.now profit.now lo.new hi.new cost.new }
 {
-    // the whole array, so that its length is known
-    let los = &lo[..];
-    let his = &hi[..];
-    let costs = &cost[..];
-    let mut i = 0;
-    while i < count {
-        lo[i] = base_numbers::lower(a[i], b[i]);
-        hi[i] = base_numbers::higher(a[i], b[i]);
+    for i in 0..count {
+        lo[i] = a[i].min(b[i]);
+        hi[i] = a[i].max(b[i]);
         cost[i] = -(profit[i] as i64);
-        i += 1;
     }
 }
 
@@ -48,17 +42,11 @@ fn arrange(
     requires { NumbersBelow count count order.now }
     ensures { Arranged count order.now lo.now hi.now cost.now los.new his.new costs.new }
 {
-    // the whole array, so that its length is known
-    let lo_places = &los[..];
-    let hi_places = &his[..];
-    let cost_places = &costs[..];
-    let mut i = 0;
-    while i < count {
+    for i in 0..count {
         let r = order[i];
         los[i] = lo[r];
         his[i] = hi[r];
         costs[i] = cost[r];
-        i += 1;
     }
 }
 
@@ -67,12 +55,8 @@ fn put_back(count: usize, place: &[usize; 256], keeps: &[bool; 256], kept: &mut 
     requires { NumbersBelow count count place.now }
     ensures { PutBack count place.now keeps.now kept.new }
 {
-    // the whole array, so that its length is known
-    let all = &kept[..];
-    let mut r = 0;
-    while r < count {
+    for r in 0..count {
         kept[r] = keeps[place[r]];
-        r += 1;
     }
 }
 
@@ -113,10 +97,8 @@ pub fn price(cells: usize, dist: &[i64; 128], place: &[usize; 128], prices: &mut
     requires { CanPrice cells dist.now place.now prices.old }
     ensures { Placed (prices_of dist.now) place.now cells prices.old prices.new }
 {
-    let mut j = 0;
-    while j < cells {
+    for j in 0..cells {
         prices[place[j]] = capped(dist[j], dist[j + 1]);
-        j += 1;
     }
 }
 
@@ -125,9 +107,6 @@ fn capped(near: i64, far: i64) -> usize
     requires { Falls near far }
     ensures { result ≡ min 1000000 (dn far - dn near) }
 {
-    let fall = near - far;
-    if 1000000 <= fall {
-        return 1000000;
-    }
-    fall as usize
+    let fall = (near - far) as usize;
+    fall.min(1000000)
 }

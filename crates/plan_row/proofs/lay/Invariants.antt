@@ -1,10 +1,6 @@
 -- Each turn lays one request: the smaller end is the lower one, whichever it is, and its cost is minus its profit. Assumes nothing.
-use Prim.Native.Nat.{◌-◌, ◌≤◌}
 use Rattle.plan_row.specs.Laying.{Laying}
 use Rattle.plan_row.proofs.lay.Given as goal
 
 abbrev pub invariant-loop-i : goal.invariant-loop-i
-invariant-loop-i l = (l.i ≤ l.count) × Laying l.i l.a l.b l.profit l.lo l.hi l.cost
-
-abbrev pub decreases-loop-i : goal.decreases-loop-i
-decreases-loop-i l = l.count - l.i
+invariant-loop-i l = Laying l.i l.a l.b l.profit l.lo l.hi l.cost

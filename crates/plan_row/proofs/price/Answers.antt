@@ -11,4 +11,4 @@ loop-j-preserved c =
     let l = c.loop-j in
     let near : SFits w64 (get_or c.args.dist.now l.j (pos 0)) = search rules in
     let far : SFits w64 (get_or c.args.dist.now (l.j + 1) (pos 0)) = search rules in
-    (omega arith, placed_more _ c.requires.places l.invariant.1 (omega arith) (rw (back near, back far, add-one) at c.capped.ensures))
+    placed_more _ c.requires.places l.invariant (omega arith) (rw (back near, back far, add-one) at c.capped.ensures)

@@ -1,11 +1,7 @@
 -- Each turn stores what the distance falls by along one cell, cut down to 1,000,000, at that cell's place. Assumes nothing.
-use Prim.Native.Nat.{◌-◌, ◌≤◌}
 use Rattle.plan_row.specs.Steps.{prices_of}
 use Rattle.plan_row.specs.Placing.{Placed}
 use Rattle.plan_row.proofs.price.Given as goal
 
 abbrev pub invariant-loop-j : goal.invariant-loop-j
-invariant-loop-j l = (l.j ≤ l.cells) × Placed (prices_of l.dist) l.place l.j l.initial.prices l.prices
-
-abbrev pub decreases-loop-j : goal.decreases-loop-j
-decreases-loop-j l = l.cells - l.j
+invariant-loop-j l = Placed (prices_of l.dist) l.place l.j l.initial.prices l.prices
