@@ -1,39 +1,31 @@
 // The entries of a plan, and the sums over what is kept.
-ghost use Rattle.std.specs.Prelude.{◌≡◌, ◌≤◌};
+ghost use Rattle.std.specs.Prelude.{◌≡◌};
 ghost use Rattle.base_sums.specs.Vacant.{Vacant};
 ghost use Rattle.base_sums.specs.At.{NumbersUpto};
 ghost use Rattle.plan_line.specs.Steps.{Entered, sum_of, number_of};
 
-// The profits of the kept ones.
-pub fn earned(count: usize, kept: &[bool; 256], profit: &[usize; 256]) -> usize
-    requires { NumbersUpto 1000000 count profit.now }
-    ensures { result ≡ sum_of count kept.now profit.now }
-{
-    let mut sum = 0;
-    let mut i = 0;
-    while i < count {
-        if kept[i] {
-            sum += profit[i];
-        }
-        i += 1;
-    }
-    sum
+// What the kept ones earn, and how many there are.
+#[derive(Clone, Copy)]
+pub struct Totals {
+    pub earned: usize,
+    pub number: usize,
 }
 
-// How many are kept.
-pub fn number(count: usize, kept: &[bool; 256]) -> usize
-    requires { count ≤ 256 }
-    ensures { result ≡ number_of count kept.now }
+// The sums over what is kept.
+pub fn sum_kept(count: usize, kept: &[bool; 256], profit: &[usize; 256]) -> Totals
+    requires { NumbersUpto 1000000 count profit.now }
+    ensures earned { result.earned ≡ sum_of count kept.now profit.now }
+    ensures number { result.number ≡ number_of count kept.now }
 {
-    let mut sum = 0;
-    let mut i = 0;
-    while i < count {
+    let mut earned = 0;
+    let mut number = 0;
+    for i in 0..count {
         if kept[i] {
-            sum += 1;
+            earned += profit[i];
+            number += 1;
         }
-        i += 1;
     }
-    sum
+    Totals { earned, number }
 }
 
 // The entry of each request: 0 where it is not kept, else way times 256 plus channel. Nothing is written past the count.
@@ -49,10 +41,7 @@ pub fn enter(
     ensures entered { Entered count a.now b.now kept.now channel.now entries.new }
     ensures vacant { Vacant 0 count 256 entries.old → Vacant 0 count 256 entries.new }
 {
-    // the whole array, so that its length is known
-    let all = &entries[..];
-    let mut i = 0;
-    while i < count {
+    for i in 0..count {
         if kept[i] {
             if a[i] < b[i] {
                 entries[i] = 256 + channel[i];
@@ -62,6 +51,5 @@ pub fn enter(
         } else {
             entries[i] = 0;
         }
-        i += 1;
     }
 }

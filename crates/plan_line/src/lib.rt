@@ -51,7 +51,7 @@ pub fn best_earnings(
         spans, count, limits, a, b, profit, &mut lo, &mut hi, &mut kept, &mut dist,
     );
     plan_row::price(spans, &dist, place, prices);
-    entries::earned(count, &kept, profit)
+    entries::sum_kept(count, &kept, profit).earned
 }
 
 // A best plan on this line.
@@ -91,9 +91,10 @@ pub fn plan_line(
     // cell j is span j, so its price goes to place j
     base_lists::by_number(cells, &mut place);
     plan_row::price(cells, &dist, &place, &mut prices[..cells]);
+    let totals = entries::sum_kept(count, &kept, profit);
     let answer = Solved::Planned {
-        earned: entries::earned(count, &kept, profit),
-        number: entries::number(count, &kept),
+        earned: totals.earned,
+        number: totals.number,
     };
     LinePlan {
         answer: answer,

@@ -14,7 +14,7 @@ price-requires c = record { falling = falling c.requires.line_columns c.solve.en
 
 pub returns : goal.returns
 unfolding clamp
-returns c = record { value = λ w. c.earned.ensures ∙ sum_best w c.solve.ensures; low_prices = placed_low (λ j. omega arith) c.price.ensures }
+returns c = record { value = λ w. c.sum_kept.ensures.earned ∙ sum_best w c.solve.ensures; low_prices = placed_low (λ j. omega arith) c.price.ensures }
 
 pub overflow_sub-spans : goal.overflow_sub-spans
 overflow_sub-spans c = some_node c.requires.line_columns

@@ -29,8 +29,8 @@ price-requires c = record {
   places = line_places c.by_number.ensures (length-take-le _ _ (omega (arith, (can_solve c.requires.columns).cells_upto)));
 }
 
-pub earned-requires : goal.earned-requires
-earned-requires c = (can_solve c.requires.columns).profits_in
+pub sum_kept-totals-requires : goal.sum_kept-totals-requires
+sum_kept-totals-requires c = (can_solve c.requires.columns).profits_in
 
 pub returns : goal.returns
 returns c w =
@@ -44,8 +44,8 @@ returns c w =
     (line_placed c.by_number.ensures (length-take-le _ _ (omega (arith, few))) c.price.ensures _)
     (c.enter.ensures.vacant (vacant_new 0 _ 256))
     (placed_end c.price.ensures (length-take-le _ _ (omega (arith, few))) (omega (arith, few)))
-    c.earned.ensures
-    c.number.ensures
+    c.sum_kept-totals.ensures.earned
+    c.sum_kept-totals.ensures.number
 
 pub overflow_sub-cells : goal.overflow_sub-cells
 overflow_sub-cells c = some_node c.requires.columns

@@ -10,9 +10,9 @@ loop-i-preserved c =
     elim c.if-kept-i.branch [
       | then-kept-i+then-a-i w ↦
           rw w.entries-is
-          (omega arith, entering_up l.invariant.1 (omega arith) w.if-kept-i.true w.if-a-i.true, λ new. vacant_set (l.invariant.2 new) l.i _ (omega arith))
+          (entering_up l.invariant.0 (omega arith) w.if-kept-i.true w.if-a-i.true, λ new. vacant_set (l.invariant.1 new) l.i _ (omega arith))
       | then-kept-i+else-a-i w ↦
           rw w.entries-is
-          (omega arith, entering_down l.invariant.1 (omega arith) w.if-kept-i.true w.if-a-i.false, λ new. vacant_set (l.invariant.2 new) l.i _ (omega arith))
-      | else-kept-i w ↦ rw w.entries-is (omega arith, entering_left l.invariant.1 (omega arith) w.if-kept-i.false, λ new. vacant_set (l.invariant.2 new) l.i _ (omega arith))
+          (entering_down l.invariant.0 (omega arith) w.if-kept-i.true w.if-a-i.false, λ new. vacant_set (l.invariant.1 new) l.i _ (omega arith))
+      | else-kept-i w ↦ rw w.entries-is (entering_left l.invariant.0 (omega arith) w.if-kept-i.false, λ new. vacant_set (l.invariant.1 new) l.i _ (omega arith))
     ]

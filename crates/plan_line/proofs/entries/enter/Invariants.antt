@@ -1,11 +1,7 @@
 -- Each turn writes one entry, below the count: 0, or the way up or down and the channel. Assumes nothing.
-use Prim.Native.Nat.{◌-◌, ◌≤◌}
 use Rattle.base_sums.specs.Vacant.{Vacant}
 use Rattle.plan_line.specs.Entering.{Entering}
 use Rattle.plan_line.proofs.entries.enter.Given as goal
 
 abbrev pub invariant-loop-i : goal.invariant-loop-i
-invariant-loop-i l = (l.i ≤ l.count) × Entering l.i l.a l.b l.kept l.channel l.entries × (Vacant 0 l.count 256 l.initial.entries → Vacant 0 l.count 256 l.entries)
-
-abbrev pub decreases-loop-i : goal.decreases-loop-i
-decreases-loop-i l = l.count - l.i
+invariant-loop-i l = Entering l.i l.a l.b l.kept l.channel l.entries × (Vacant 0 l.count 256 l.initial.entries → Vacant 0 l.count 256 l.entries)
