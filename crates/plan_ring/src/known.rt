@@ -11,13 +11,8 @@ fn places(nodes: usize, j: usize, place: &mut [usize; 128])
     requires { (j < nodes) × (nodes ≤ 64) }
     ensures { Filled (span_at nodes j) (nodes - 1) place.new }
 {
-    // the whole array, so that its length is known
-    let all = &place[..];
-    let last = nodes - 1;
-    let mut t = 0;
-    while t < last {
+    for t in 0..nodes - 1 {
         place[t] = plan_turn::span_at(nodes, j, t);
-        t += 1;
     }
 }
 
@@ -26,11 +21,9 @@ fn bridge(nodes: usize, j: usize, known: &mut [usize; 64])
     requires { (j < nodes) × (3 ≤ nodes) × (nodes ≤ 64) }
     ensures { LowPrices known.old → LowPrices known.new }
 {
-    // the whole array, so that its length is known
-    let all = &known[..];
     let after = known[plan_turn::span_at(nodes, j, 0)];
     let before = known[plan_turn::span_at(nodes, j, nodes - 2)];
-    known[j] = base_numbers::higher(before, after);
+    known[j] = before.max(after);
 }
 
 // What the line which cut j leaves can earn, by its own columns. Its prices become the known ones.
@@ -49,8 +42,6 @@ pub fn best_earnings(
     ensures value { (w : LineColumns nodes count limits.now a.now b.now profit.now) → result ≡ best w.book }
     ensures low_prices { LowPrices known.new }
 {
-    // the whole array, so that its length is known
-    let all = &known[..];
     let mut place = [0usize; 128];
     places(nodes, j, &mut place);
     let earned = plan_line::best_earnings(nodes, count, limits, a, b, profit, &place, known);

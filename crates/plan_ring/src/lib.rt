@@ -90,7 +90,7 @@ fn raised(
         return top;
     }
     let earned = cut_earnings(j, nodes, count, limits, a, b, profit, known);
-    base_numbers::higher(top, earned)
+    top.max(earned)
 }
 
 // The lowest-numbered span whose line has the greatest best earnings.
@@ -108,14 +108,12 @@ fn best_cut(
     let mut known = [0usize; 64];
     let mut best = 0;
     let mut top = cut_earnings(0, nodes, count, limits, a, b, profit, &mut known);
-    let mut j = 1;
-    while j < nodes {
+    for j in 1..nodes {
         let earned = raised(top, j, nodes, count, limits, a, b, profit, &mut known);
         if top < earned {
             top = earned;
             best = j;
         }
-        j += 1;
     }
     best
 }

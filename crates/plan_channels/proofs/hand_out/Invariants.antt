@@ -1,5 +1,5 @@
 -- `plan_channels::hand_out` meets its contract. With every channel 0 it is the turn of node 0; each node's turn ends in the next one's (`NodeGiven` of specs/Stages),
--- and past the last cell every kept one has its channel. That one finds none left is never the answer. Each turn leaves one node fewer. Assumes nothing.
+-- and past the last cell every kept one has its channel. That one finds none left is never the answer. Assumes nothing.
 use Rattle.plan_channels.specs.Stages.{Stage}
 use Rattle.plan_channels.proofs.hand_out.Given as goal
 

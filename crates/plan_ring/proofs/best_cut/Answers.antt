@@ -12,15 +12,13 @@ pub loop-j-preserved : goal.loop-j-preserved
 loop-j-preserved c =
     let l = c.loop-j in
     let tried = c.raised-earned.ensures in (
-      omega arith,
-      omega arith,
       λ w.
           elim c.if-top-earned.branch [
-            | then-top-earned x ↦ rw (x.top-is, x.best-is) (best_better (l.invariant.2 w) (tried.value w) x.if-top-earned.true)
-            | else-top-earned x ↦ rw (x.top-is, x.best-is) (best_stays (l.invariant.2 w) (tried.value w) x.if-top-earned.false)
+            | then-top-earned x ↦ rw (x.top-is, x.best-is) (best_better (l.invariant.0 w) (tried.value w) x.if-top-earned.true)
+            | else-top-earned x ↦ rw (x.top-is, x.best-is) (best_stays (l.invariant.0 w) (tried.value w) x.if-top-earned.false)
           ],
       tried.low_prices,
     )
 
 pub returns : goal.returns
-returns c w = let l = c.loop-j in best_chosen w.ring (omega (arith, w.nodes_is)) (l.invariant.2 w)
+returns c w = let l = c.loop-j in best_chosen w.ring (omega (arith, w.nodes_is)) (l.invariant.0 w)

