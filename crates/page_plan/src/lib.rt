@@ -6,15 +6,21 @@ mod parts;
 
 ghost use Rattle.page_plan.specs.Promise.{PrintsRefusal, Printable, PrintsPlan};
 
-// "refused N at P".
+use page_text::Page;
+
+// "refused N at P". Number and place stay two parameters: this crate stands on the definitions alone and does not know the reader's `Refusal`.
 pub fn print_refusal(out: &mut [u8; 4096], number: usize, place: usize) -> usize
     ensures { PrintsRefusal number place out.old out.new result }
 {
-    let all = &mut out[..];
-    let p = page_text::put_word(all, 0, b"refused ");
-    let p = page_text::put_decimal(all, p, number);
-    let p = page_text::put_word(all, p, b" at ");
-    page_text::put_number(all, p, place, b'\n')
+    let mut page = Page {
+        out: &mut out[..],
+        at: 0,
+    };
+    page.put_word(b"refused ");
+    page.put_decimal(number);
+    page.put_word(b" at ");
+    page.put_number(place, b'\n');
+    page.at
 }
 
 // Earnings, number kept and cut, and then each request with its way and channel. The columns hold the book's requests and their entries; `shape` is the book's,
@@ -33,7 +39,11 @@ pub fn print_plan(
     requires { Printable count a.now b.now entries.now }
     ensures { PrintsPlan shape count earned kept cut a.now b.now entries.now out.old out.new result }
 {
-    let all = &mut out[..];
-    let next = parts::put_first(all, 0, shape, earned, kept, cut);
-    parts::put_requests(all, next, count, a, b, entries)
+    let mut page = Page {
+        out: &mut out[..],
+        at: 0,
+    };
+    parts::put_first(&mut page, shape, earned, kept, cut);
+    parts::put_requests(&mut page, count, a, b, entries);
+    page.at
 }

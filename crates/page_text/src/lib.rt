@@ -1,50 +1,60 @@
-// Text into a lent buffer. Each function writes from a place on, answers the place after what it wrote, and leaves the rest of the buffer as it was. The caller
-// sees that there is room.
+// Text into a lent buffer: a page is the buffer and the place where its text ends so far. Each method puts its text there and leaves the rest of the buffer
+// as it was. The caller sees that there is room.
 #![tactic(auto)]
 
-ghost use Rattle.std.specs.Prelude.{[], ◌∷◌, ◌++◌, ◌+◌, ◌≤◌, ◌<◌, length};
+ghost use Rattle.std.specs.Prelude.{◌≡◌, [], ◌∷◌, ◌++◌, ◌+◌, ◌≤◌, ◌<◌, length};
 ghost use Rattle.page_text.specs.Decimal.{decimal};
 ghost use Rattle.page_text.specs.Put.{Put};
 
-// One byte.
-pub fn put_byte(out: &mut [u8], at: usize, b: u8) -> usize
-    requires { at < length out.old }
-    ensures { Put out.old out.new at (b ∷ []) result }
-{
-    out[at] = b;
-    at + 1
+#[derive(Drop)]
+pub struct Page<'a> {
+    pub out: &'a mut [u8],
+    pub at: usize,
 }
 
-// The bytes of a word, as b"profit ".
-pub fn put_word(out: &mut [u8], at: usize, word: &[u8]) -> usize
-    requires { at + length word.now ≤ length out.old }
-    ensures { Put out.old out.new at word.now result }
-{
-    let mut i = 0;
-    while i < word.len() {
-        out[at + i] = word[i];
-        i += 1;
+impl<'a> Page<'a> {
+    // One byte.
+    pub fn put_byte(&mut self, b: u8)
+        requires { self.old.at < length self.old.out.now }
+        ensures same_buffer { self.new.out.ghost_name ≡ self.old.out.ghost_name }
+        ensures put { Put self.old.out.now self.new.out.now self.old.at (b ∷ []) self.new.at }
+    {
+        self.out[self.at] = b;
+        self.at += 1;
     }
-    at + i
-}
 
-// A number in decimal, with no leading zero.
-pub fn put_decimal(out: &mut [u8], at: usize, n: usize) -> usize
-    requires { at + length (decimal n) ≤ length out.old }
-    ensures { Put out.old out.new at (decimal n) result }
-{
-    if n < 10 {
-        return put_byte(out, at, 48 + n as u8);
+    // The bytes of a word, as b"profit ".
+    pub fn put_word(&mut self, word: &[u8])
+        requires { self.old.at + length word.now ≤ length self.old.out.now }
+        ensures same_buffer { self.new.out.ghost_name ≡ self.old.out.ghost_name }
+        ensures put { Put self.old.out.now self.new.out.now self.old.at word.now self.new.at }
+    {
+        let next = self.at + word.len();
+        self.out[self.at..next].copy_from_slice(word);
+        self.at = next;
     }
-    let next = put_decimal(out, at, n / 10);
-    put_byte(out, next, 48 + (n % 10) as u8)
-}
 
-// A number and the byte that ends it, as a space or a line feed.
-pub fn put_number(out: &mut [u8], at: usize, n: usize, end: u8) -> usize
-    requires { at + length (decimal n) < length out.old }
-    ensures { Put out.old out.new at (decimal n ++ (end ∷ [])) result }
-{
-    let next = put_decimal(out, at, n);
-    put_byte(out, next, end)
+    // A number in decimal, with no leading zero.
+    pub fn put_decimal(&mut self, n: usize)
+        requires { self.old.at + length (decimal n) ≤ length self.old.out.now }
+        ensures same_buffer { self.new.out.ghost_name ≡ self.old.out.ghost_name }
+        ensures put { Put self.old.out.now self.new.out.now self.old.at (decimal n) self.new.at }
+    {
+        if n < 10 {
+            self.put_byte(48 + n as u8);
+            return;
+        }
+        self.put_decimal(n / 10);
+        self.put_byte(48 + (n % 10) as u8);
+    }
+
+    // A number and the byte that ends it, as a space or a line feed.
+    pub fn put_number(&mut self, n: usize, end: u8)
+        requires { self.old.at + length (decimal n) < length self.old.out.now }
+        ensures same_buffer { self.new.out.ghost_name ≡ self.old.out.ghost_name }
+        ensures put { Put self.old.out.now self.new.out.now self.old.at (decimal n ++ (end ∷ [])) self.new.at }
+    {
+        self.put_decimal(n);
+        self.put_byte(end);
+    }
 }

@@ -6,11 +6,11 @@ use Rattle.page_plan.specs.Room.{first_ends}
 use Rattle.page_plan.specs.Parts.{plan_put}
 use Rattle.page_plan.proofs.print_plan.Goals as goal
 
-pub put_first-next-requires : goal.put_first-next-requires
-put_first-next-requires c = omega (arith, short_64)
+pub put_first-requires : goal.put_first-requires
+put_first-requires c = omega (arith, short_64)
 
 pub put_requests-requires-clause-lines_room_in_bounds : goal.put_requests-requires-clause-lines_room_in_bounds
 put_requests-requires-clause-lines_room_in_bounds c = omega (arith, short_64, first_ends)
 
 pub returns : goal.returns
-returns c = plan_put c.put_first-next.ensures c.put_requests.ensures (omega (arith, short_64, first_ends))
+returns c = plan_put c.put_first.ensures.put c.put_requests.ensures.printing (omega (arith, short_64, first_ends))
