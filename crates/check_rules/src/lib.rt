@@ -10,9 +10,12 @@ ghost use Rattle.paper_book.specs.Bytes.{entry_in};
 ghost use Rattle.paper_rules.specs.Ways.{way_from};
 ghost use Rattle.paper_rules.specs.Plans.{obeys};
 ghost use Rattle.check_rules.specs.Drawn.{Drawn};
-ghost use Rattle.check_rules.specs.Entry.{formed_at, LayingPlan, Lays};
+ghost use Rattle.check_rules.specs.Entry.{formed_at};
 
+mod laid;
 mod sweep;
+
+use laid::Laid;
 
 // Entry i of the lent list: two bytes, high byte first.
 pub fn entry_at(entries: &[u8], i: usize) -> usize
@@ -59,41 +62,6 @@ pub fn where_kept(value: usize, entry: usize) -> usize
     value
 }
 
-// Lays the plan out in columns: for each request where it begins, where it ends, whether it crosses a span at all, and its channel. The answer is whether
-// every entry by itself obeys the rules; at the first that does not it stops.
-fn lay(
-    channels: usize,
-    count: usize,
-    a: &[usize; 256],
-    b: &[usize; 256],
-    entries: &[u8],
-    lo: &mut [usize; 256],
-    hi: &mut [usize; 256],
-    crossing: &mut [bool; 256],
-    channel: &mut [usize; 256],
-) -> bool
-    requires count_bound { (count ≤ 256) × (2 * count ≤ length entries.now) }
-    requires laying_plan { LayingPlan 0 a.now b.now (entry_in entries.now) lo.old hi.old crossing.old channel.old }
-    ensures { Lays result channels count a.now b.now entries.now lo.new hi.new crossing.new channel.new }
-{
-    let mut i = 0;
-    while i < count {
-        let entry = entry_at(entries, i);
-        if !formed(channels, a[i], b[i], entry) {
-            return false;
-        }
-        // one that is not kept begins and ends at node 0, so that it crosses no span
-        let begins = where_kept(base_numbers::lower(a[i], b[i]), entry);
-        let ends = where_kept(base_numbers::higher(a[i], b[i]), entry);
-        lo[i] = begins;
-        hi[i] = ends;
-        crossing[i] = begins < ends;
-        channel[i] = entry % 256;
-        i += 1;
-    }
-    true
-}
-
 // Whether the plan obeys the rules.
 pub fn lawful(
     spans: usize,
@@ -108,25 +76,14 @@ pub fn lawful(
     requires numbers_below { NumbersBelow 64 count a.now × NumbersBelow 64 count b.now }
     ensures { (book : Book) → Drawn book spans limits.now count a.now b.now → channels ≡ book.channels → result ≡ obeys book (entry_in entries.now) }
 {
-    let mut lo = [0usize; 256];
-    let mut hi = [0usize; 256];
-    let mut crossing = [false; 256];
-    let mut channel = [0usize; 256];
-    if !lay(
-        channels,
-        count,
-        a,
-        b,
-        entries,
-        &mut lo,
-        &mut hi,
-        &mut crossing,
-        &mut channel,
-    ) {
+    let mut laid = Laid {
+        lo: [0; 256],
+        hi: [0; 256],
+        crossing: [false; 256],
+        channel: [0; 256],
+    };
+    if !laid.lay(channels, count, a, b, entries) {
         return false;
     }
-    if !sweep::within_limits(spans, limits, count, &lo, &hi) {
-        return false;
-    }
-    sweep::channels_apart(spans, count, &lo, &hi, &crossing, &channel)
+    laid.within_limits(spans, limits, count) && laid.channels_apart(spans, count)
 }

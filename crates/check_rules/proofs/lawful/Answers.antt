@@ -8,17 +8,18 @@ use Rattle.check_rules.proofs.lawful.Goals as goal
 pub returns-then-not-lay : goal.returns-then-not-lay
 returns-then-not-lay c book drawn k = entries_break _ drawn k c.lay.ensures.formed c.if-not-lay.true
 
-pub returns-then-not-within_limits : goal.returns-then-not-within_limits
-returns-then-not-within_limits c book drawn k =
-    let formed = c.if-not-lay.false in
-    spans_obey _ drawn k c.lay.ensures.formed formed (c.lay.ensures.laid formed) (limits_decide c.within_limits.ensures c.if-not-within_limits.true)
-
 pub channels_apart-requires : goal.channels_apart-requires
 channels_apart-requires c =
     (omega arith, can_sweep c.requires.numbers_below.0 c.requires.numbers_below.1 (c.lay.ensures.laid c.if-not-lay.false))
 
-pub returns : goal.returns
-returns c book drawn k =
+pub returns-then-within_limits : goal.returns-then-within_limits
+returns-then-within_limits c book drawn k =
     let formed = c.if-not-lay.false in
     spans_obey _ drawn k c.lay.ensures.formed formed (c.lay.ensures.laid formed)
-    (channels_decide c.within_limits.ensures c.if-not-within_limits.false c.channels_apart.ensures)
+    (channels_decide c.within_limits.ensures c.if-within_limits.true c.channels_apart.ensures)
+
+pub returns-else-within_limits : goal.returns-else-within_limits
+returns-else-within_limits c book drawn k =
+    let formed = c.if-not-lay.false in
+    rw c.if-within_limits.false
+    (spans_obey _ drawn k c.lay.ensures.formed formed (c.lay.ensures.laid formed) (limits_decide c.within_limits.ensures c.if-within_limits.false))

@@ -3,7 +3,7 @@ use native.Mathlib.Omega.{arith}
 use Rattle.base_sums.specs.Each.{of_yes}
 use Rattle.check_rules.specs.Spans.{begin_below}
 use Rattle.check_rules.specs.Loads.{tallied_none, tally_upto, load_turns, loaded_more, load_above}
-use Rattle.check_rules.proofs.sweep.within_limits.Goals as goal
+use Rattle.check_rules.proofs.laid.Laid.within_limits.Goals as goal
 
 pub tally_up-requires : goal.tally_up-requires
 tally_up-requires c = record { numbers_below = begin_below 64 (omega arith) c.requires.1; tallied = tallied_none }
@@ -13,22 +13,22 @@ tally_up-requires-2 c = record { numbers_below = c.requires.1.in_line; tallied =
 
 pub overflow_add-load : goal.overflow_add-load
 overflow_add-load c =
-    omega (arith, c.loop-s.invariant.1.few, tally_upto c.tally_up.ensures c.loop-s.s (omega arith), c.requires.1.in_line.few)
+    omega (arith, c.loop-s.invariant.few, tally_upto c.tally_up.ensures c.loop-s.s (omega arith), c.requires.1.in_line.few)
 
 pub overflow_sub-load : goal.overflow_sub-load
-overflow_sub-load c = omega (arith, load_turns c.requires.1.upward c.tally_up.ensures c.tally_up-2.ensures (omega arith) c.loop-s.invariant.1)
+overflow_sub-load c = omega (arith, load_turns c.requires.1.upward c.tally_up.ensures c.tally_up-2.ensures (omega arith) c.loop-s.invariant)
 
 pub returns-then-limits-s : goal.returns-then-limits-s
 returns-then-limits-s c = record {
   sure = λ e. absurd (of_yes e);
-  whole = λ within. absurd (load_above c.requires.1.upward c.tally_up.ensures c.tally_up-2.ensures (omega arith) c.loop-s.invariant.1 (omega arith) (omega arith) within);
+  whole = λ within. absurd (load_above c.requires.1.upward c.tally_up.ensures c.tally_up-2.ensures (omega arith) c.loop-s.invariant (omega arith) (omega arith) within);
 }
 
 pub loop-s-preserved : goal.loop-s-preserved
 loop-s-preserved c =
-    (omega arith, loaded_more c.requires.1.upward c.tally_up.ensures c.tally_up-2.ensures (omega arith) c.loop-s.invariant.1 (omega arith))
+    loaded_more c.requires.1.upward c.tally_up.ensures c.tally_up-2.ensures (omega arith) c.loop-s.invariant (omega arith)
 
 pub returns : goal.returns
 returns c =
     let all : c.loop-s.s ≡ c.args.spans = omega arith in
-    record { sure = λ e. rw all at c.loop-s.invariant.1.within; whole = λ within. refl }
+    record { sure = λ e. rw all at c.loop-s.invariant.within; whole = λ within. refl }

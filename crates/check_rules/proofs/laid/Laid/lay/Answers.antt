@@ -4,7 +4,7 @@ use borrow.Author.Count.{below_more}
 use Rattle.paper_rules.specs.Plans as Plans
 use Rattle.paper_rules.specs.Plans.{kept}
 use Rattle.check_rules.specs.Entry.{lays_wrong, lays_all, laying_more}
-use Rattle.check_rules.proofs.lay.Goals as goal
+use Rattle.check_rules.proofs.laid.Laid.lay.Goals as goal
 
 pub returns-then-not-formed : goal.returns-then-not-formed
 returns-then-not-formed c =
@@ -14,16 +14,15 @@ pub loop-i-preserved : goal.loop-i-preserved
 unfolding kept Plans.channel
 loop-i-preserved c =
     let l = c.loop-i in (
-      omega arith,
-      below_more _ _ l.invariant.1 (sym (rw c.entry_at-entry.ensures at c.formed.ensures) ∙ c.if-not-formed.false),
+      below_more _ _ l.invariant.0 (sym (rw c.entry_at-entry.ensures at c.formed.ensures) ∙ c.if-not-formed.false),
       laying_more
           _
           _
           _
-          l.invariant.2
+          l.invariant.1
           (omega arith)
-          (rw (c.entry_at-entry.ensures, c.lower.ensures) at c.where_kept-begins.ensures)
-          (rw (c.entry_at-entry.ensures, c.higher.ensures) at c.where_kept-ends.ensures)
+          (rw (c.entry_at-entry.ensures, c.min.ensures) at c.where_kept-begins.ensures)
+          (rw (c.entry_at-entry.ensures, c.max.ensures) at c.where_kept-ends.ensures)
           (rw c.entry_at-entry.ensures),
     )
 
@@ -31,4 +30,4 @@ pub returns : goal.returns
 returns c =
     let l = c.loop-i in
     let all : l.i ≡ c.args.count = omega arith in
-    lays_all (λ k h. l.invariant.1 k (omega arith)) (rw all at l.invariant.2.so_far)
+    lays_all (λ k h. l.invariant.0 k (omega arith)) (rw all at l.invariant.1.so_far)

@@ -4,7 +4,7 @@ use Rattle.base_sums.specs.Each.{of_yes}
 use Rattle.paper_book.specs.Columns.{at}
 use Rattle.plan_channels.specs.Lists.{Leads}
 use Rattle.check_rules.specs.Sweep.{swept_pass, swept_clash, swept_more}
-use Rattle.check_rules.proofs.sweep.apart_from.Goals as goal
+use Rattle.check_rules.proofs.laid.Laid.apart_from.Goals as goal
 
 pub returns-then-v-ends : goal.returns-then-v-ends
 returns-then-v-ends c =
@@ -18,6 +18,6 @@ pub loop-i-preserved : goal.loop-i-preserved
 loop-i-preserved c =
     let own = c.loop-i.invariant.1 (omega arith) in
     let can = c.requires.v_bound.1 in
-    let next : Leads c.args.count (c.loop-i.i + 1) c.args.v c.args.lo.now c.args.crossing.now (at c.args.after.now c.loop-i.i) =
+    let next : Leads c.args.count (c.loop-i.i + 1) c.args.v c.args.self.now.lo c.args.self.now.crossing (at c.args.after.now c.loop-i.i) =
     rw own.1 at (c.requires.listed_by_node.next c.loop-i.i (omega arith) (omega arith) own.0) in
     (next.upto, next.here, swept_pass can (swept_more can c.loop-i.invariant.2 (omega arith) own.0 own.1 (omega arith)) next)
