@@ -3,6 +3,8 @@ ghost use Rattle.std.specs.Prelude.{◌*◌, ◌≤◌, length};
 ghost use Rattle.paper_book.specs.Bytes.{entry_in};
 ghost use Rattle.check_rules.specs.Entry.{LayingPlan, Lays};
 
+use crate::{entry_at, formed, where_kept};
+
 // For each request where it begins, where it ends, whether it crosses a span at all, and its channel.
 #[derive(Clone, Copy)]
 pub struct Laid {
@@ -27,13 +29,13 @@ impl Laid {
         ensures { Lays result channels count a.now b.now entries.now self.new.lo self.new.hi self.new.crossing self.new.channel }
     {
         for i in 0..count {
-            let entry = crate::entry_at(entries, i);
-            if !crate::formed(channels, a[i], b[i], entry) {
+            let entry = entry_at(entries, i);
+            if !formed(channels, a[i], b[i], entry) {
                 return false;
             }
             // one that is not kept begins and ends at node 0, so that it crosses no span
-            let begins = crate::where_kept(a[i].min(b[i]), entry);
-            let ends = crate::where_kept(a[i].max(b[i]), entry);
+            let begins = where_kept(a[i].min(b[i]), entry);
+            let ends = where_kept(a[i].max(b[i]), entry);
             self.lo[i] = begins;
             self.hi[i] = ends;
             self.crossing[i] = begins < ends;

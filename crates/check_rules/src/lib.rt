@@ -17,7 +17,7 @@ mod sweep;
 
 use laid::Laid;
 
-// Entry i of the lent list: two bytes, high byte first.
+// Entry i of the lent list: two bytes, high byte first. (A price has four: check_plan's `price_at`, by another definition, so that one function for both says less.)
 pub fn entry_at(entries: &[u8], i: usize) -> usize
     requires { 2 * i + 2 ≤ length entries.now }
     ensures { result ≡ entry_in entries.now i }
@@ -25,7 +25,7 @@ pub fn entry_at(entries: &[u8], i: usize) -> usize
     read_record::bytes::two(entries, 2 * i)
 }
 
-// The way that exists from a to b.
+// The way that exists from a to b. It stays a number: the paper's way is one (`way_from`), and all that is done with it is to compare an entry's byte.
 fn way_of(a: usize, b: usize) -> usize
     ensures { result ≡ way_from a b }
 {

@@ -1,18 +1,14 @@
 use Prim.Native.Nat.{◌+◌}
 use native.Mathlib.Omega.{arith}
-use Rattle.base_sums.specs.Each.{of_yes}
 use Rattle.paper_book.specs.Columns.{at}
 use Rattle.plan_channels.specs.Lists.{Leads}
-use Rattle.check_rules.specs.Sweep.{swept_pass, swept_clash, swept_more}
+use Rattle.check_rules.specs.Sweep.{swept_pass, swept_more}
 use Rattle.check_rules.proofs.laid.Laid.apart_from.Goals as goal
 
-pub returns-then-v-ends : goal.returns-then-v-ends
-returns-then-v-ends c =
-    let own = c.loop-i.invariant.1 (omega arith) in
-    record {
-      on = λ e. absurd (of_yes e);
-      stop = λ no. swept_clash c.requires.v_bound.1 c.loop-i.invariant.2 (omega arith) own.0 own.1 (omega arith);
-    }
+pub loop-i-init : goal.loop-i-init
+loop-i-init c =
+    let begin = c.requires.listed_by_node.begins c.args.v (omega arith) in
+    (begin.upto, begin.here, swept_pass c.requires.v_bound.1 c.requires.swept begin)
 
 pub loop-i-preserved : goal.loop-i-preserved
 loop-i-preserved c =

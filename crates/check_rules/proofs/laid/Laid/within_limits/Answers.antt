@@ -1,15 +1,13 @@
-use mathlib.Core.Path.{◌≡◌, refl}
 use native.Mathlib.Omega.{arith}
 use Rattle.base_sums.specs.Each.{of_yes}
-use Rattle.check_rules.specs.Spans.{begin_below}
 use Rattle.check_rules.specs.Loads.{tallied_none, tally_upto, load_turns, loaded_more, load_above}
 use Rattle.check_rules.proofs.laid.Laid.within_limits.Goals as goal
 
-pub tally_up-requires : goal.tally_up-requires
-tally_up-requires c = record { numbers_below = begin_below 64 (omega arith) c.requires.1; tallied = tallied_none }
+pub tally_up-requires-clause-tallied : goal.tally_up-requires-clause-tallied
+tally_up-requires-clause-tallied c = tallied_none
 
-pub tally_up-requires-2 : goal.tally_up-requires-2
-tally_up-requires-2 c = record { numbers_below = c.requires.1.in_line; tallied = tallied_none }
+pub tally_up-requires-2-clause-tallied : goal.tally_up-requires-2-clause-tallied
+tally_up-requires-2-clause-tallied c = tallied_none
 
 pub overflow_add-load : goal.overflow_add-load
 overflow_add-load c =
@@ -27,8 +25,3 @@ returns-then-limits-s c = record {
 pub loop-s-preserved : goal.loop-s-preserved
 loop-s-preserved c =
     loaded_more c.requires.1.upward c.tally_up.ensures c.tally_up-2.ensures (omega arith) c.loop-s.invariant (omega arith)
-
-pub returns : goal.returns
-returns c =
-    let all : c.loop-s.s ≡ c.args.spans = omega arith in
-    record { sure = λ e. rw all at c.loop-s.invariant.within; whole = λ within. refl }
