@@ -1,6 +1,6 @@
 -- Demand 3 in the words of 01 ("Prices and the checker"), said of the answer that `check_plan` gives. A yes or a no is given of an accepted line
 -- with lists long enough and no price too high, and is then the verdict of the rules; so the laws of ceilings speak of it. Assumes nothing.
-use Rattle.std.specs.Prelude.{◌≡◌, refl, Bool, false, List, ℕ, ◌≤◌, ◌<◌}
+use Rattle.std.specs.Prelude.{◌≡◌, refl, Bool, false, List, ℕ, ◌≤◌, ◌<◌, Ok}
 use Rattle.std.proofs.Common.{sym, ◌∙◌, eq-eqb}
 use Rattle.std.proofs.Math.Path.{ap}
 use Rattle.std.proofs.Math.Bool.{true}
@@ -16,9 +16,8 @@ use Rattle.paper_rules.specs.Prices.{verdict, ceiling}
 use Rattle.paper_rules.specs.Operations.{places_short, too_short, too_dear, checking, checker}
 use Rattle.law_line.specs.Line.{Line}
 use Rattle.law_line.specs.Ceiling.{yes_obeys, yes_earns, yes_best, yes_for_best, no_for_others}
-use Rattle.check_plan.specs.declared.Checked.{Checked}
-use Rattle.check_plan.specs.declared.Checked.TheVariants.{Yes, No}
-use Rattle.check_plan.specs.Checked.{checked_of, same_checked}
+use Rattle.check_plan.specs.declared.Verdict.TheVariants.{Yes, No}
+use Rattle.check_plan.specs.Checked.{Checked, checked_of, same_checked}
 use Rattle.check_plan.specs.WaysOut as W
 
 -- what `check_plan` promises of its answer
@@ -90,30 +89,30 @@ module _ {file entries prices : List ℕ} {answer : Checked} (j : Judged file en
   answer_is : checked_of answer ≡ done (verdict j.book (entry_in entries) (price_in prices))
   answer_is = answered.says ∙ sym (is_verdict j)
 
-  yes_verdict : answer ≡ Yes → verdict j.book (entry_in entries) (price_in prices) ≡ true
+  yes_verdict : answer ≡ Ok Yes → verdict j.book (entry_in entries) (price_in prices) ≡ true
   unfolding checked_of
   yes_verdict e = let said : done true ≡ done (verdict j.book (entry_in entries) (price_in prices)) = rw e at answer_is in cc
 
   -- "The checker says yes exactly when the plan obeys the rules and its earnings equal the ceiling", and else no.
-  pub yes_means : answer ≡ Yes → (obeys j.book (entry_in entries) ≡ true) × (earnings j.book (entry_in entries) ≡ ceiling j.book (price_in prices))
+  pub yes_means : answer ≡ Ok Yes → (obeys j.book (entry_in entries) ≡ true) × (earnings j.book (entry_in entries) ≡ ceiling j.book (price_in prices))
   yes_means e = let v = yes_verdict e in (yes_obeys (on_line j) _ _ v, yes_earns (on_line j) _ _ v)
 
-  pub yes_given : obeys j.book (entry_in entries) ≡ true → earnings j.book (entry_in entries) ≡ ceiling j.book (price_in prices) → answer ≡ Yes
+  pub yes_given : obeys j.book (entry_in entries) ≡ true → earnings j.book (entry_in entries) ≡ ceiling j.book (price_in prices) → answer ≡ Ok Yes
   unfolding verdict checked_of
-  yes_given o e = same_checked answer Yes (answer_is ∙ ap done (both _ _ o (eq-eqb _ _ e)))
+  yes_given o e = same_checked answer (Ok Yes) (answer_is ∙ ap done (both _ _ o (eq-eqb _ _ e)))
 
-  pub no_given : (answer ≡ Yes → ⊥) → answer ≡ No
+  pub no_given : (answer ≡ Ok Yes → ⊥) → answer ≡ Ok No
   unfolding checked_of
   no_given n =
-      ⊎_elim (λ e. absurd (n (same_checked answer Yes (answer_is ∙ ap done e)))) (λ e. same_checked answer No (answer_is ∙ ap done e))
+      ⊎_elim (λ e. absurd (n (same_checked answer (Ok Yes) (answer_is ∙ ap done e)))) (λ e. same_checked answer (Ok No) (answer_is ∙ ap done e))
       (decided (verdict j.book (entry_in entries) (price_in prices)))
 
 -- At prices where any plan gets a yes, every best plan gets a yes and no other plan does.
 module _ {file entries prices : List ℕ} {answer : Checked} (j : Judged file entries prices) (answered : Answered file entries prices answer) where
-  pub best_gets_yes : {accepted : List ℕ} → Answered file accepted prices Yes → Best j.book (entry_in entries) → answer ≡ Yes
+  pub best_gets_yes : {accepted : List ℕ} → Answered file accepted prices (Ok Yes) → Best j.book (entry_in entries) → answer ≡ Ok Yes
   unfolding checked_of
   best_gets_yes {accepted} other b =
-      same_checked answer Yes (answer_is j answered ∙ ap done (yes_for_best (on_line j) (entry_in accepted) (entry_in entries) (price_in prices) there b))
+      same_checked answer (Ok Yes) (answer_is j answered ∙ ap done (yes_for_best (on_line j) (entry_in accepted) (entry_in entries) (price_in prices) there b))
     where
       was : Judged file accepted prices
       was = judged_there file accepted prices (sym other.says)
@@ -124,12 +123,12 @@ module _ {file entries prices : List ℕ} {answer : Checked} (j : Judged file en
       there : verdict j.book (entry_in accepted) (price_in prices) ≡ true
       there = rw same at (yes_verdict was other refl)
 
-  pub others_get_no : (Best j.book (entry_in entries) → ⊥) → answer ≡ No
+  pub others_get_no : (Best j.book (entry_in entries) → ⊥) → answer ≡ Ok No
   unfolding checked_of
-  others_get_no n = same_checked answer No (answer_is j answered ∙ ap done (no_for_others (on_line j) (entry_in entries) (price_in prices) n))
+  others_get_no n = same_checked answer (Ok No) (answer_is j answered ∙ ap done (no_for_others (on_line j) (entry_in entries) (price_in prices) n))
 
 -- "A yes means that no plan obeying the rules earns more": the book is then an accepted line, and the plan in the entry list is best.
-pub yes_means_best : {file entries prices : List ℕ} → Answered file entries prices Yes → (j : Judged file entries prices) × Best j.book (entry_in entries)
+pub yes_means_best : {file entries prices : List ℕ} → Answered file entries prices (Ok Yes) → (j : Judged file entries prices) × Best j.book (entry_in entries)
 unfolding checked_of
 yes_means_best {file} {entries} {prices} answered =
     let j = judged_there file entries prices (sym answered.says) in

@@ -6,20 +6,20 @@ ghost use Rattle.std.specs.Prelude.{◌≡◌};
 ghost use Rattle.paper_book.specs.Bytes.{entry_in, price_in};
 ghost use Rattle.paper_rules.specs.Prices.{verdict};
 ghost use Rattle.paper_rules.specs.Operations.{checking, checker};
-ghost use Rattle.read_book.specs.Says.{book_from};
-ghost use Rattle.work_columns.specs.Seam.{HeldBook, LentBook};
+ghost use Rattle.work_columns.specs.Seam.{HeldBook};
 ghost use Rattle.check_plan.specs.CanCheck.{CanCheck};
 ghost use Rattle.check_plan.specs.Checked.{checked_of};
 
 mod places;
 mod totals;
 
-// What checking a plan comes to: yes, no, or a refusal with its number and place.
-#[derive(Clone, Copy)]
-pub enum Checked {
+use read_record::{Network, Refusal};
+
+// What a plan that can be checked comes to.
+#[derive(Clone, Copy, Debug, PartialEq, Eq)]
+pub enum Verdict {
     Yes,
     No,
-    Refused(read_record::Refusal),
 }
 
 // Whether the plan obeys the rules and its earnings equal the ceiling of the prices.
@@ -37,15 +37,13 @@ fn weigh(
     requires { CanCheck spans limits.now count a.now b.now profits.now entries.now prices.now }
     ensures { (w : CanCheck spans limits.now count a.now b.now profits.now entries.now prices.now) → channels ≡ w.book.channels → result ≡ verdict w.book (entry_in entries.now) (price_in prices.now) }
 {
-    if !check_rules::lawful(spans, channels, limits, count, a, b, entries) {
-        return false;
-    }
-    totals::balanced(spans, limits, count, a, b, profits, entries, prices)
+    check_rules::lawful(spans, channels, limits, count, a, b, entries)
+        && totals::balanced(spans, limits, count, a, b, profits, entries, prices)
 }
 
 // Checks a plan for an accepted book: 14 for a ring, then 12, then 13, and only then yes or no.
 fn check_book(
-    network: read_record::Network,
+    network: Network,
     limits: &[usize; 64],
     count: usize,
     a: &[usize; 256],
@@ -53,12 +51,12 @@ fn check_book(
     profits: &[usize; 256],
     entries: &[u8],
     prices: &[u8],
-) -> Checked
+) -> Result<Verdict, Refusal>
     requires { HeldBook network count limits.now a.now b.now profits.now }
     ensures { (h : HeldBook network count limits.now a.now b.now profits.now) → checked_of result ≡ checking h.book entries.now prices.now }
 {
     if network.shape == 2 {
-        return Checked::Refused(read_record::Refusal {
+        return Err(Refusal {
             number: 14,
             place: 0,
         });
@@ -71,88 +69,41 @@ fn check_book(
         entries.len() / 2,
         prices.len() / 4,
     ) {
-        return Checked::Refused(read_record::Refusal {
+        return Err(Refusal {
             number: 12,
             place: 0,
         });
     }
-    let dear = places::dear(prices, spans);
-    if dear < spans {
-        return Checked::Refused(read_record::Refusal {
-            number: 13,
-            place: dear,
-        });
+    if let Some(place) = places::dear(prices, spans) {
+        return Err(Refusal { number: 13, place });
     }
     let channels = network.channels;
     if weigh(
         spans, channels, limits, count, a, b, profits, entries, prices,
     ) {
-        return Checked::Yes;
+        return Ok(Verdict::Yes);
     }
-    Checked::No
-}
-
-// Checks a plan for an accepted book whose requests are columns.
-fn check_held(
-    network: read_record::Network,
-    limits: [usize; 64],
-    count: usize,
-    cols: work_columns::RequestColumns,
-    entries: &[u8],
-    prices: &[u8],
-) -> Checked
-    requires { HeldBook network count limits cols.a cols.b cols.profit }
-    ensures { (h : HeldBook network count limits cols.a cols.b cols.profit) → checked_of result ≡ checking h.book entries.now prices.now }
-{
-    let a = cols.a;
-    let b = cols.b;
-    let profits = cols.profit;
-    check_book(network, &limits, count, &a, &b, &profits, entries, prices)
-}
-
-// Checks a plan for an accepted book whose requests are lent.
-fn check_lent(
-    network: read_record::Network,
-    limits: [usize; 64],
-    requests: &[read_record::Request],
-    count: usize,
-    entries: &[u8],
-    prices: &[u8],
-) -> Checked
-    requires { LentBook network limits requests.now count }
-    ensures { checked_of result ≡ checking (book_from network limits count requests.now) entries.now prices.now }
-{
-    let cols = work_columns::columns(requests, count);
-    check_held(network, limits, count, cols, entries, prices)
-}
-
-// The same for the list that the reader hands on: here it is lent.
-fn check_accepted(
-    network: read_record::Network,
-    limits: [usize; 64],
-    requests: [read_record::Request; 256],
-    count: usize,
-    entries: &[u8],
-    prices: &[u8],
-) -> Checked
-    requires { LentBook network limits requests count }
-    ensures { checked_of result ≡ checking (book_from network limits count requests) entries.now prices.now }
-{
-    check_lent(network, limits, &requests, count, entries, prices)
+    Ok(Verdict::No)
 }
 
 // Checks a plan: the entries, two bytes each, against the prices, four bytes each, for the book in the file. The book's own refusals come first.
-pub fn check_plan(file: &[u8], entries: &[u8], prices: &[u8]) -> Checked
+pub fn check_plan(file: &[u8], entries: &[u8], prices: &[u8]) -> Result<Verdict, Refusal>
     ensures { checked_of result ≡ checker file.now entries.now prices.now }
 {
     let taken = read_book::read_book(file);
-    let answer = taken.answer;
-    let network = match answer {
+    let network = match taken.answer {
         read_book::Answer::Accepted(network) => network,
-        read_book::Answer::Refused(refusal) => return Checked::Refused(refusal),
+        read_book::Answer::Refused(refusal) => return Err(refusal),
     };
-    let limits = taken.limits;
-    let count = taken.count;
-    let requests = taken.requests;
-    check_accepted(network, limits, requests, count, entries, prices)
+    let cols = work_columns::columns(&taken.requests, taken.count);
+    check_book(
+        network,
+        &taken.limits,
+        taken.count,
+        &cols.a,
+        &cols.b,
+        &cols.profit,
+        entries,
+        prices,
+    )
 }

@@ -15,11 +15,9 @@ fn earned(count: usize, profits: &[usize; 256], entries: &[u8]) -> usize
     ensures { result ≡ Σ count (earning profits.now (entry_in entries.now)) }
 {
     let mut sum = 0;
-    let mut i = 0;
-    while i < count {
+    for (i, profit) in profits[..count].iter().enumerate() {
         let entry = check_rules::entry_at(entries, i);
-        sum += check_rules::where_kept(profits[i], entry);
-        i += 1;
+        sum += check_rules::where_kept(*profit, entry);
     }
     sum
 }
@@ -38,8 +36,7 @@ pub fn balanced(
     requires { CanCheck spans limits.now count a.now b.now profits.now entries.now prices.now }
     ensures { (w : CanCheck spans limits.now count a.now b.now profits.now entries.now prices.now) → result ≡ eqb (earnings w.book (entry_in entries.now)) (ceiling w.book (price_in prices.now)) }
 {
-    let mut list = [0usize; 64];
-    places::price_list(spans, prices, &mut list);
+    let list = places::price_list(spans, prices);
     let top = work_ceiling::ceiling_of(spans, count, limits, a, b, profits, &list);
     earned(count, profits, entries) == top
 }

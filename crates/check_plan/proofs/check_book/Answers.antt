@@ -1,5 +1,5 @@
 -- `check_plan::check_book` meets its contract: each way out is one of the checker's, in their order. Assumes nothing.
-use mathlib.Core.Path.{sym, ap, ◌∙◌}
+use mathlib.Core.Path.{refl, sym, ap, ◌∙◌}
 use native.Mathlib.Omega.{arith}
 use Rattle.paper_book.specs.Reading.{done}
 use Rattle.check_plan.specs.Checked.{checked_of}
@@ -17,25 +17,25 @@ returns-then-short c h =
     let straight = c.if-network-eq2.false in
     short_refused (line h straight) _ _ (short_is h straight _ _ c.short.ensures ∙ c.if-short.true)
 
-pub dear-dear-requires : goal.dear-dear-requires
-dear-dear-requires c =
+pub dear-requires : goal.dear-requires
+dear-requires c =
     omega (arith, prices_reach c.requires c.if-network-eq2.false c.args.entries.now c.args.prices.now c.short.ensures c.if-short.false)
 
-pub returns-then-dear-spans : goal.returns-then-dear-spans
+pub returns-in-Some : goal.returns-in-Some
 unfolding checked_of
-returns-then-dear-spans c h = refused_there h c.if-network-eq2.false _ _ c.short.ensures c.if-short.false c.dear-dear.ensures (omega arith)
+returns-in-Some c h = refused_there h c.if-network-eq2.false _ _ c.short.ensures c.if-short.false c.in-Some.ensures.1 c.in-Some.ensures.0
 
 pub weigh-requires : goal.weigh-requires
-weigh-requires c = can_check c.requires c.if-network-eq2.false _ _ c.short.ensures c.if-short.false c.dear-dear.ensures (omega arith)
+weigh-requires c = can_check c.requires c.if-network-eq2.false _ _ c.short.ensures c.if-short.false refl (omega (arith, c.in_default.ensures))
 
 pub returns-then-weigh : goal.returns-then-weigh
 unfolding checked_of
 returns-then-weigh c h =
     sym (ap done c.if-weigh.true)
-    ∙ weighed h c.if-network-eq2.false _ _ c.short.ensures c.if-short.false c.dear-dear.ensures (omega arith) c.weigh.ensures
+    ∙ weighed h c.if-network-eq2.false _ _ c.short.ensures c.if-short.false refl (omega (arith, c.in_default.ensures)) c.weigh.ensures
 
 pub returns : goal.returns
 unfolding checked_of
 returns c h =
     sym (ap done c.if-weigh.false)
-    ∙ weighed h c.if-network-eq2.false _ _ c.short.ensures c.if-short.false c.dear-dear.ensures (omega arith) c.weigh.ensures
+    ∙ weighed h c.if-network-eq2.false _ _ c.short.ensures c.if-short.false refl (omega (arith, c.in_default.ensures)) c.weigh.ensures

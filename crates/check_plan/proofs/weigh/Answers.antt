@@ -2,17 +2,16 @@
 use native.Mathlib.Omega.{arith}
 use Rattle.paper_rules.specs.Prices.{verdict}
 use Rattle.law_line.specs.HeldLine.{few_spans}
-use Rattle.check_rules.specs.Drawn.{drawn, ends_below}
+use Rattle.check_rules.specs.Drawn.{drawn}
 use Rattle.check_plan.proofs.weigh.Goals as goal
 
-pub lawful-requires : goal.lawful-requires
-lawful-requires c =
-    let w = c.requires in record { spans_bound = omega (arith, few_spans w.held, w.entries_enough); numbers_below = ends_below w.held }
+pub lawful-requires-clause-spans_bound : goal.lawful-requires-clause-spans_bound
+lawful-requires-clause-spans_bound c = omega (arith, few_spans c.requires.held, c.requires.entries_enough)
 
-pub returns-then-not-lawful : goal.returns-then-not-lawful
+pub returns-then-lawful : goal.returns-then-lawful
 unfolding verdict
-returns-then-not-lawful c w k = rw (← c.lawful.ensures w.book (drawn w.held) k, c.if-not-lawful.true)
+returns-then-lawful c w k = rw (← c.lawful.ensures w.book (drawn w.held) k, c.if-lawful.true) (c.balanced.ensures w)
 
-pub returns : goal.returns
+pub returns-else-lawful : goal.returns-else-lawful
 unfolding verdict
-returns c w k = rw (← c.lawful.ensures w.book (drawn w.held) k, c.if-not-lawful.false) (c.balanced.ensures w)
+returns-else-lawful c w k = rw (← c.lawful.ensures w.book (drawn w.held) k, c.if-lawful.false)

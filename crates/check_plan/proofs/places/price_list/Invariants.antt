@@ -1,13 +1,7 @@
 -- `check_plan::places::price_list` meets its contract: each turn puts one price in its place. Assumes nothing.
-use mathlib.Core.Path.{◌≡◌}
-use Prim.Native.Nat.{◌-◌, ◌≤◌}
-use lib.ListN.{length}
 use Rattle.base_sums.specs.Filled.{Filled}
 use Rattle.paper_book.specs.Bytes.{price_in}
 use Rattle.check_plan.proofs.places.price_list.Given as goal
 
 abbrev pub invariant-loop-s : goal.invariant-loop-s
-invariant-loop-s l = (l.s ≤ l.spans) × (length l.list ≡ 64) × Filled (price_in l.prices) l.s l.list
-
-abbrev pub decreases-loop-s : goal.decreases-loop-s
-decreases-loop-s l = l.spans - l.s
+invariant-loop-s l = Filled (price_in l.prices) l.s l.price-items

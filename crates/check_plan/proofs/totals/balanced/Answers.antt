@@ -4,11 +4,11 @@ use Rattle.law_line.specs.HeldLine.{few_spans}
 use Rattle.check_plan.specs.Balance.{can_earn, priced_line, same_balance}
 use Rattle.check_plan.proofs.totals.balanced.Goals as goal
 
-pub price_list-requires : goal.price_list-requires
-price_list-requires c = omega (arith, few_spans c.requires.held, c.requires.prices_enough)
+pub price_list-list-requires : goal.price_list-list-requires
+price_list-list-requires c = omega (arith, few_spans c.requires.held, c.requires.prices_enough)
 
 pub ceiling_of-top-requires : goal.ceiling_of-top-requires
-ceiling_of-top-requires c = priced_line c.requires c.price_list.ensures
+ceiling_of-top-requires c = priced_line c.requires c.price_list-list.ensures
 
 pub earned-requires : goal.earned-requires
 earned-requires c = can_earn c.requires
@@ -16,5 +16,5 @@ earned-requires c = can_earn c.requires
 pub returns : goal.returns
 unfolding priced_line
 returns c w =
-    let listed = c.price_list.ensures in
+    let listed = c.price_list-list.ensures in
     same_balance w listed c.earned.ensures (c.ceiling_of-top.ensures (priced_line w listed))
