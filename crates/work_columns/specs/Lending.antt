@@ -9,7 +9,7 @@ use base.Fraction.{full_share}
 use mir.Syntax.{Ty, named, ty_array}
 use mir.Raw.{raw as raw_ty}
 use mir.Val.{Val}
-use base.Logic.{ent, sep, ex, via, never_e}
+use base.Logic.{ent, sep, via, never_e}
 use base.Fml.{Lft, Incl, Fml, fsep, fat, froom, fdead, flent}
 use ghost.Rules.{Toks, span}
 use types.Logic.{Logic, sem, lfts}

@@ -1,6 +1,6 @@
 -- The seam between the reader and what works on its book: where the reader accepts a file, its reading is a sound book, whose requests are lent as
 -- one list; the limits, and the columns made of that list, hold the book. Assumes nothing.
-use Rattle.std.specs.Prelude.{◌≡◌, refl, List, ℕ, ◌≤◌, length}
+use Rattle.std.specs.Prelude.{◌≡◌, refl, Result, Ok, List, ℕ, ◌≤◌, length}
 use Rattle.std.proofs.Math.Path.{ap}
 use Rattle.std.proofs.Common.{◌∙◌, arith}
 use Rattle.base_sums.specs.Vacant.{Vacant}
@@ -10,9 +10,10 @@ use Rattle.paper_book.specs.Reading.{done, reading}
 use Rattle.paper_book.specs.Sound.{Sound, sound}
 use Rattle.paper_book.specs.Columns.{Holds}
 use Rattle.read_record.specs.declared.Network.{Network}
+use Rattle.read_record.specs.declared.Refusal.{Refusal}
+use Rattle.read_record.specs.Shapes.{code_of}
 use Rattle.read_record.specs.declared.Request.{Request}
 use Rattle.read_book.specs.declared.Taken.{Taken}
-use Rattle.read_book.specs.declared.Answer.TheVariants.{Accepted}
 use Rattle.read_book.specs.Says.{book_from, Reads}
 use Rattle.read_book.specs.Accepted.{accepted_read, made_count, made_limit, made_request}
 use Rattle.work_columns.specs.declared.RequestColumns.{RequestColumns}
@@ -22,7 +23,7 @@ use Rattle.work_columns.specs.Columned.{Columned, CanColumn}
 pub record HeldBook (net : Network) (count : ℕ) (limits a b profits : List ℕ) : Type 0 where
   pub book : Book
   pub sound : Sound book
-  pub shape_is : book.shape ≡ net.shape
+  pub shape_is : book.shape ≡ code_of net.shape
   pub nodes_is : book.nodes ≡ net.nodes
   pub channels_is : book.channels ≡ net.channels
   pub holds : Holds book count limits a b profits
@@ -70,8 +71,9 @@ lent_held {net} {limits} {requests} {count} lent made = record {
 }
 
 pub accepted :
-    {file : List ℕ} {taken : Taken} {net : Network} → Reads file taken → taken.answer ≡ Accepted net
-    → LentBook net taken.limits taken.requests taken.count × (reading file ≡ done (book_from net taken.limits taken.count taken.requests))
-accepted {file} {taken} {net} reads e =
-    let read = accepted_read reads e in
-    (record { can = record { few = omega (arith, reads.counted); there = omega (arith, reads.counted, reads.no_more_requests.long) }; sound = sound file _ read }, read)
+    {file : List ℕ} {read : Result Taken Refusal} {taken : Taken} → Reads file read → read ≡ Ok taken
+    → LentBook taken.network taken.limits taken.requests taken.count × (reading file ≡ done (book_from taken.network taken.limits taken.count taken.requests))
+accepted {file} {read} {taken} reads e =
+    let whole = reads.whole taken e in
+    let says = accepted_read reads e in
+    (record { can = record { few = omega (arith, whole.counted); there = omega (arith, whole.counted, whole.no_more_requests.long) }; sound = sound file _ says }, says)

@@ -20,13 +20,11 @@ pub fn columns(requests: &[Request], count: usize) -> RequestColumns
     let mut a = [0usize; 256];
     let mut b = [0usize; 256];
     let mut profit = [0usize; 256];
-    let mut i = 0;
-    while i < count {
+    for i in 0..count {
         let q = requests[i];
         a[i] = q.a;
         b[i] = q.b;
         profit[i] = q.profit;
-        i += 1;
     }
     RequestColumns { a, b, profit }
 }

@@ -4,7 +4,7 @@ use Rattle.work_columns.specs.Columned.{columned_none, columned_more}
 use Rattle.work_columns.proofs.columns.Goals as goal
 
 pub loop-i-init : goal.loop-i-init
-loop-i-init c = (omega arith, columned_none _ (vacant_new 0 0 256))
+loop-i-init c = columned_none _ (vacant_new 0 0 256)
 
 pub loop-i-preserved : goal.loop-i-preserved
-loop-i-preserved c = (omega arith, columned_more _ c.loop-i.invariant.1 (omega arith))
+loop-i-preserved c = columned_more _ c.loop-i.invariant (omega arith)

