@@ -1,4 +1,5 @@
 pub mod PricedLine
+pub mod Lent
 pub mod Tolls
 pub mod Surplus
 pub mod Sums

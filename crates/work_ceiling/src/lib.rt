@@ -2,26 +2,28 @@
 // 63 × 96 × 1,000,000 for the spans and 256 × 1,000,000 for the requests, together 6,304,000,000.
 #![tactic(auto)]
 
-ghost use Rattle.std.specs.Prelude.{◌≡◌, ◌-◌, ◌≤◌, ◌<◌, min, max};
+ghost use Rattle.std.specs.Prelude.{◌≡◌, ◌-◌, ◌≤◌, ◌<◌, length, min, max};
 ghost use Rattle.base_sums.specs.Sums.{Σ};
 ghost use Rattle.paper_book.specs.Columns.{at};
 ghost use Rattle.paper_rules.specs.Prices.{ceiling};
-ghost use Rattle.work_ceiling.specs.PricedLine.{PricedLine};
+ghost use Rattle.work_ceiling.specs.Lent.{PricedColumns};
 ghost use Rattle.work_ceiling.specs.Tolls.{Payable, Tolled};
 ghost use Rattle.work_ceiling.specs.Surplus.{gain_at, CanSum};
 
+use base_columns::Columns;
+
 // The sum over spans of limit × price. On the way toll[v] becomes what the spans below node v cost together.
-fn rent(spans: usize, limits: &[usize; 64], prices: &[usize; 64], toll: &mut [usize; 64]) -> usize
-    requires { Payable spans limits.now prices.now }
-    ensures { Tolled spans limits.now (at prices.now) toll.new result }
+fn rent(limits: &[usize], prices: &[usize; 64], toll: &mut [usize; 64]) -> usize
+    requires { Payable (length limits.now) limits.now prices.now }
+    ensures { Tolled (length limits.now) limits.now (at prices.now) toll.new result }
 {
     toll[0] = 0;
     let mut sum = 0;
     let mut rented = 0;
-    for s in 0..spans {
+    for (s, limit) in limits.iter().enumerate() {
         let price = prices[s];
         sum += price;
-        rented += limits[s] * price;
+        rented += *limit * price;
         toll[s + 1] = sum;
     }
     rented
@@ -36,38 +38,24 @@ fn fare_of(a: usize, b: usize, toll: &[usize; 64]) -> usize
 }
 
 // What all requests, kept or not, have above the prices they cross.
-fn surplus(
-    count: usize,
-    a: &[usize; 256],
-    b: &[usize; 256],
-    profit: &[usize; 256],
-    toll: &[usize; 64],
-) -> usize
-    requires { CanSum count a.now b.now profit.now toll.now }
-    ensures { result ≡ Σ count (gain_at a.now b.now profit.now toll.now) }
+fn surplus(columns: &Columns, toll: &[usize; 64]) -> usize
+    requires { CanSum (length columns.now.a.now) columns.now.a.now columns.now.b.now columns.now.profit.now toll.now }
+    ensures { result ≡ Σ (length columns.now.a.now) (gain_at columns.now.a.now columns.now.b.now columns.now.profit.now toll.now) }
 {
     let mut sum = 0;
-    for i in 0..count {
-        let fare = fare_of(a[i], b[i], toll);
-        sum += profit[i].saturating_sub(fare);
+    for i in 0..columns.count() {
+        let fare = fare_of(columns.a[i], columns.b[i], toll);
+        sum += columns.profit[i].saturating_sub(fare);
     }
     sum
 }
 
 // The ceiling of these prices, one for each span.
-pub fn ceiling_of(
-    spans: usize,
-    count: usize,
-    limits: &[usize; 64],
-    a: &[usize; 256],
-    b: &[usize; 256],
-    profit: &[usize; 256],
-    prices: &[usize; 64],
-) -> usize
-    requires { PricedLine spans count limits.now a.now b.now profit.now prices.now }
-    ensures { (w : PricedLine spans count limits.now a.now b.now profit.now prices.now) → result ≡ ceiling w.book (at prices.now) }
+pub fn ceiling_of(columns: &Columns, prices: &[usize; 64]) -> usize
+    requires { PricedColumns columns.now prices.now }
+    ensures { (w : PricedColumns columns.now prices.now) → result ≡ ceiling w.book (at prices.now) }
 {
     let mut toll = [0usize; 64];
-    let rented = rent(spans, limits, prices, &mut toll);
-    rented + surplus(count, a, b, profit, &toll)
+    let rented = rent(columns.limits, prices, &mut toll);
+    rented + surplus(columns, &toll)
 }

@@ -4,4 +4,4 @@ use Rattle.work_ceiling.specs.Surplus.{gain_at}
 use Rattle.work_ceiling.proofs.surplus.Given as goal
 
 abbrev pub invariant-loop-i : goal.invariant-loop-i
-invariant-loop-i l = Running 1000000 (gain_at l.a l.b l.profit l.toll) l.i l.sum
+invariant-loop-i l = Running 1000000 (gain_at l.columns.a.now l.columns.b.now l.columns.profit.now l.toll) l.i l.sum

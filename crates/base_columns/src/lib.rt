@@ -1,0 +1,31 @@
+// A book's numbers as columns that are lent: what the planner, the ceiling and the checker work on.
+#![tactic(auto)]
+
+ghost use Rattle.std.specs.Prelude.{◌≡◌, length};
+
+// A limit for each span; and for each request both ends and the profit, so that these three are of one length.
+#[derive(Clone, Copy)]
+pub struct Columns<'a> {
+    pub limits: &'a [usize],
+    pub a: &'a [usize],
+    pub b: &'a [usize],
+    pub profit: &'a [usize],
+    ghost b_even: { length b.now ≡ length a.now },
+    ghost profit_even: { length profit.now ≡ length a.now },
+}
+
+impl Columns<'_> {
+    // How many spans there are.
+    pub fn spans(&self) -> usize
+        ensures { result ≡ length self.now.limits.now }
+    {
+        self.limits.len()
+    }
+
+    // How many requests.
+    pub fn count(&self) -> usize
+        ensures { result ≡ length self.now.a.now }
+    {
+        self.a.len()
+    }
+}
