@@ -3,6 +3,7 @@
 #pragma once
 #include <cstddef>
 #include <cstdint>
+#include <optional>
 
 namespace plain {
 // A line or a ring by its columns.
@@ -24,17 +25,25 @@ void plan_row(size_t cells, size_t count, const size_t *lo, const size_t *hi, co
 }
 // order.cpp
 namespace order {
+// The requests of a row by their columns.
+struct Requests {
+    size_t count;
+    const size_t *lo, *hi, *profit;
+};
+// The least and the greatest of the profits.
 struct Extremes {
     size_t least, greatest;
+
+    size_t apart() const { return greatest < least ? 0 : greatest - least; }
 };
-Extremes range(size_t count, const size_t *list);
 // guess.cpp
 namespace guess {
-// The greatest worth, 0 where none was made, and the prices' ceiling, 0 where it says nothing.
+// The greatest worth, and the prices' ceiling, where it can be compared with what an order brings.
 struct Guess {
-    size_t top, ceiling;
+    size_t top;
+    std::optional<size_t> ceiling;
 };
-Guess weigh(size_t cells, size_t count, const size_t *limits, const size_t *lo, const size_t *hi, const size_t *profit, size_t least, size_t greatest, size_t *worths);
+std::optional<Guess> weigh(size_t cells, const size_t *limits, const Requests &requests, const Extremes &profits, size_t *worths);
 }
 void ordered(size_t cells, size_t count, const size_t *limits, const size_t *lo, const size_t *hi, const size_t *profit, size_t *order, size_t *place);
 }
