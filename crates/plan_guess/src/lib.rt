@@ -41,7 +41,8 @@ fn try_prices(limits: &[usize], requests: &Requests, profits: Extremes, order: &
     }
 }
 
-// The order that is tried: by worth, or by guessed prices where many ask for the same spans and that brings more.
+// The order that is tried: by worth, or by guessed prices where many ask for the same spans and that brings more. (Whole arrays and a count are what
+// `plan_order::ordered` is lent, whose contract stays: they are cut here.)
 pub fn proposed(
     cells: usize,
     count: usize,

@@ -12,7 +12,7 @@ pub struct Extremes {
 
 impl Extremes {
     pub fn of(profits: &[usize]) -> Extremes {
-        let mut least = 1000000;
+        let mut least = usize::MAX;
         let mut greatest = 0;
         for profit in profits {
             least = least.min(*profit);
