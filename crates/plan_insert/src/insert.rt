@@ -12,11 +12,7 @@ fn gain_of(cost: i64, near: i64, far: i64) -> usize
     requires { Gains cost near far }
     ensures { result ≡ dn near + dn cost - dn far }
 {
-    let gain = far - near - cost;
-    if gain <= 0 {
-        return 0;
-    }
-    gain as usize
+    (far - near - cost).max(0) as usize
 }
 
 // Lowers the distance of every node whose label is below `to` by what it lacks.

@@ -5,7 +5,7 @@ ghost use Rattle.plan_insert.specs.State.{at, Relaxation, Lacks, Tried, Spreads,
 
 use crate::ground::{Ground, Side};
 
-// The arcs of the cells, numbered past the 256 candidates as `law_flow` numbers them: up a cell, and down one.
+// The arcs of the cells, up and down, numbered past the 256 candidates as `law_flow` numbers them: an array of enums would be twice as big.
 pub const UP: usize = 256;
 
 pub const DOWN: usize = 257;
