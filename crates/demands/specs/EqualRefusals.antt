@@ -8,8 +8,7 @@ use Rattle.read_record.specs.declared.Refusal.{Refusal}
 use Rattle.read_book.specs.declared.Taken.{Taken}
 use Rattle.read_book.specs.Says.{Reads}
 use Rattle.read_book.specs.Accepted.{taken_once}
-use Rattle.check_plan.specs.declared.Checked.{Checked}
-use Rattle.check_plan.specs.Checked.{checked_of, same_checked}
+use Rattle.check_plan.specs.Checked.{Checked, checked_of, same_checked}
 use Rattle.plan_book.specs.declared.Answer.TheVariants as Planner
 use Rattle.plan_book.specs.declared.BookPlan.{BookPlan}
 use Rattle.plan_book.specs.Promise.{BookPlanned}

@@ -1,8 +1,14 @@
--- Writing a list of numbers high byte first: each turn writes the bytes of one more, from its last one back, and leaves every other byte as it was.
+-- Writing a list of numbers high byte first: each turn writes the bytes of one more, and leaves every other byte as it was.
 -- Said once for any width: entries have two bytes and prices four. Assumes nothing.
-use Rattle.std.specs.Prelude.{List, ◌≡◌, refl, ℕ, suc, ◌+◌, ◌-◌, ◌*◌, ◌^◌, ◌/◌, ◌%◌, ◌≤◌, ◌<◌, length, set}
-use Rattle.std.proofs.Common.{⊎_elim, sym, ap, ◌∙◌, pow-suc, div-one, mul-le-mul_left, arith, length-set}
+use Rattle.std.specs.Prelude.{List, ◌≡◌, refl, ℕ, zero, suc, ◌+◌, ◌-◌, ◌*◌, ◌^◌, ◌/◌, ◌%◌, ◌≤◌, ◌<◌, length, set, take, drop}
+use Rattle.std.proofs.Common.{⊎_elim, sym, ap, ◌∙◌, pow-suc, div-one, mul-le-mul_left, arith, length-set, length-drop, length-take-le, take_all, get_or-take}
 use Rattle.std.proofs.Math.Nat.{div-div-eq-div-mul}
+use Rattle.std.specs.List.{between}
+use Rattle.std.specs.Int.{byte_at, bytes_high_first}
+use Rattle.std.proofs.lemmas.List.{get_or-drop}
+use Rattle.std.proofs.lemmas.List.Edits.{get_or-between}
+use Rattle.std.proofs.lemmas.Slice.{take-put_mid_below, between-put_mid, drop-put_mid}
+use borrow.Rule.Slice.PartMut.{put_mid, same_len_mid}
 use Rattle.base_sums.specs.At.{Stored, store}
 use Rattle.base_sums.specs.Each.{less_or_not}
 use Rattle.paper_book.specs.Bytes.{byte}
@@ -18,7 +24,7 @@ pub record NumberPut (offset w left value : ℕ) (before after : List ℕ) : Typ
   pub earlier : (t : ℕ) → t < offset + left → byte after t ≡ byte before t
   pub later : (t : ℕ) → offset + w ≤ t → byte after t ≡ byte before t
 
--- the same on the way there: the rest is the number without the bytes that are written
+-- the same on the way there, byte by byte (the code copies them at once): the rest is the number without the bytes that are written
 pub record Putting (offset w left value rest : ℕ) (before after : List ℕ) : Type 0 where
   pub upto : left ≤ w
   pub rest_is : (j : ℕ) → left + j ≡ w → rest ≡ value / 256 ^ j
@@ -56,6 +62,52 @@ putting_more {offset} {w} {left} {value} {rest} {before} {out} some room was =
 
     further : {j : ℕ} (i : ℕ) → left + i ≡ w → j ≡ suc i → rest / 256 ≡ value / 256 ^ j
     further i e is = rw (is, was.rest_is i e) (div-div-eq-div-mul value (256 ^ i) 256 ∙ ap (λ (x : ℕ). value / x) (sym (pow-suc 256 i)))
+
+-- ---- one number, as the last of its eight bytes
+
+-- byte j counted from the lowest
+low_byte : (j value : ℕ) → byte_at j value ≡ value / 256 ^ j % 256
+low_byte zero value = rw div-one refl
+low_byte (suc j) value = refl
+
+high_first : (n k j value : ℕ) → k + 1 + j ≡ n → byte (bytes_high_first n value) k ≡ value / 256 ^ j % 256
+high_first zero k j value e = absurd (omega arith)
+high_first (suc n) zero j value e = let same : j ≡ n = omega arith in rw same (low_byte n value)
+high_first (suc n) (suc k) j value e = high_first n k j value (omega arith)
+
+-- where two lists have the same bytes before a place, or from a place on
+same_before : (xs ys : List ℕ) (n t : ℕ) → take n xs ≡ take n ys → t < n → byte xs t ≡ byte ys t
+same_before xs ys n t e l = sym (get_or-take n xs t 0 l) ∙ ap (λ zs. byte zs t) e ∙ get_or-take n ys t 0 l
+
+same_from : (xs ys : List ℕ) (n t : ℕ) → drop n xs ≡ drop n ys → n ≤ t → byte xs t ≡ byte ys t
+same_from xs ys n t e l =
+    let there : n + (t - n) ≡ t = omega arith in
+    rw there at (sym (get_or-drop n xs (t - n) 0) ∙ ap (λ zs. byte zs (t - n)) e ∙ get_or-drop n ys (t - n) 0)
+
+-- the last w of a number's eight bytes, in the place of as many of the list
+pub part_put :
+    {offset w value : ℕ} {out part : List ℕ} → w ≤ 8 → offset + w ≤ length out → part ≡ take (8 - (8 - w)) (drop (8 - w) (bytes_high_first 8 value))
+    → NumberPut offset w 0 value out (put_mid offset (offset + w - offset) out part)
+part_put {offset} {w} {value} {out} {part} few room lent_part = record {
+  length_same = same_len_mid offset (offset + w - offset) out part (long ∙ sym lent);
+  bytes = λ k j l e.
+      sym (get_or-between _ offset (offset + w) k 0 (omega arith)) ∙ ap (λ zs. byte zs k) whole
+      ∙ rw is (get_or-drop (8 - w) (bytes_high_first 8 value) k 0 ∙ high_first 8 (8 - w + k) j value (omega arith));
+  earlier = λ t h. same_before _ _ offset t (take-put_mid_below offset (offset + w - offset) out part offset (omega arith) (omega arith)) (omega arith);
+  later = λ t h. same_from _ _ (offset + w) t (drop-put_mid offset (offset + w - offset) out part (offset + w) (omega arith) (omega arith) (omega (arith, long))) h;
+}
+  where
+    is : part ≡ drop (8 - w) (bytes_high_first 8 value)
+    is = lent_part ∙ take_all (8 - (8 - w)) _ (omega (arith, length-drop (8 - w) (bytes_high_first 8 value)))
+
+    long : length part ≡ w
+    long = rw is (length-drop (8 - w) (bytes_high_first 8 value) ∙ omega arith)
+
+    lent : length (take (offset + w - offset) (drop offset out)) ≡ w
+    lent = length-take-le (offset + w - offset) (drop offset out) (omega (arith, length-drop offset out)) ∙ omega arith
+
+    whole : between offset (offset + w) (put_mid offset (offset + w - offset) out part) ≡ part
+    whole = between-put_mid offset (offset + w - offset) out part (offset + w) (omega arith) (omega (arith, long))
 
 -- ---- a list of numbers
 

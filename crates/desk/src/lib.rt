@@ -10,7 +10,7 @@ ghost use Rattle.paper_rules.specs.Operations.{checker};
 ghost use Rattle.desk.specs.Packing.{packed_verdict};
 ghost use Rattle.desk.specs.Promise.{PlanAnswer};
 
-use check_plan::Checked;
+use check_plan::Verdict;
 use plan_book::Answer;
 
 // Plans the book. On success the entries are written, and on a line the prices, and the answer packs earnings, number kept and cut; on a refusal nothing
@@ -23,7 +23,7 @@ pub fn melyonva_plan(book: &[u8], entries: &mut [u8], prices: &mut [u8]) -> u64
     let plan = made.entries;
     let asked = made.prices;
     match answer {
-        Answer::Refused(refusal) => pack::refusal(refusal.number, refusal.place),
+        Answer::Refused(refusal) => pack::refusal(refusal),
         Answer::Planned {
             earned,
             number,
@@ -42,10 +42,9 @@ pub fn melyonva_plan(book: &[u8], entries: &mut [u8], prices: &mut [u8]) -> u64
 pub fn melyonva_check(book: &[u8], entries: &[u8], prices: &[u8]) -> u64
     ensures { result ≡ packed_verdict (checker book.now entries.now prices.now) }
 {
-    let checked = check_plan::check_plan(book, entries, prices);
-    match checked {
-        Checked::Yes => 1,
-        Checked::No => 0,
-        Checked::Refused(refusal) => pack::refusal(refusal.number, refusal.place),
+    match check_plan::check_plan(book, entries, prices) {
+        Ok(Verdict::Yes) => 1,
+        Ok(Verdict::No) => 0,
+        Err(refusal) => pack::refusal(refusal),
     }
 }

@@ -3,12 +3,14 @@ ghost use Rattle.std.specs.Prelude.{◌≡◌};
 ghost use Rattle.desk.specs.Packing.{packed_refusal, packed_plan};
 ghost use Rattle.desk.specs.Bounds.{SmallRefusal, SmallPlan};
 
+use read_record::Refusal;
+
 // A refusal: the highest bit, its number and its place.
-pub fn refusal(number: usize, place: usize) -> u64
-    requires { SmallRefusal number place }
-    ensures { result ≡ packed_refusal number place }
+pub fn refusal(refusal: Refusal) -> u64
+    requires { SmallRefusal refusal.number refusal.place }
+    ensures { result ≡ packed_refusal refusal.number refusal.place }
 {
-    9223372036854775808 + number as u64 * 4294967296 + place as u64
+    9223372036854775808 + refusal.number as u64 * 4294967296 + refusal.place as u64
 }
 
 // A plan: earnings, number kept and cut.

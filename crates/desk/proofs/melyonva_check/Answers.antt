@@ -3,13 +3,13 @@ use Rattle.desk.specs.Checking.{packed_yes, packed_no, refused_small, packed_ref
 use Rattle.desk.proofs.melyonva_check.Goals as goal
 
 pub refusal-requires : goal.refusal-requires
-refusal-requires c = refused_small _ _ _ c.check_plan-checked.ensures c.in-Refused.is
+refusal-requires c = refused_small _ _ _ c.check_plan.ensures c.in-Err.is
 
-pub returns-in-Yes : goal.returns-in-Yes
-returns-in-Yes c = packed_yes _ _ _ c.check_plan-checked.ensures c.in-Yes.is
+pub returns-in-Ok-Yes : goal.returns-in-Ok-Yes
+returns-in-Ok-Yes c = packed_yes _ _ _ c.check_plan.ensures (rw c.in-Ok-Yes.field-0-is at c.in-Ok-Yes.is)
 
-pub returns-in-No : goal.returns-in-No
-returns-in-No c = packed_no _ _ _ c.check_plan-checked.ensures c.in-No.is
+pub returns-in-Ok-No : goal.returns-in-Ok-No
+returns-in-Ok-No c = packed_no _ _ _ c.check_plan.ensures (rw c.in-Ok-No.field-0-is at c.in-Ok-No.is)
 
-pub returns-in-Refused : goal.returns-in-Refused
-returns-in-Refused c = packed_refused _ _ _ c.check_plan-checked.ensures c.in-Refused.is c.refusal.ensures
+pub returns-in-Err : goal.returns-in-Err
+returns-in-Err c = packed_refused _ _ _ c.check_plan.ensures c.in-Err.is c.refusal.ensures

@@ -7,12 +7,12 @@ pub refusal-requires : goal.refusal-requires
 refusal-requires c =
     refusal_fits c.args.entries.now c.args.prices.now c.plan_book-made.ensures c.in-Refused.is
 
-pub write_numbers-requires : goal.write_numbers-requires
-write_numbers-requires c =
+pub write_numbers-requires-clause-fit : goal.write_numbers-requires-clause-fit
+write_numbers-requires-clause-fit c =
     entries_fit c.args.entries.now c.args.prices.now c.plan_book-made.ensures c.in-Planned.is
 
-pub write_numbers-requires-then-made-eq1 : goal.write_numbers-requires-then-made-eq1
-write_numbers-requires-then-made-eq1 c =
+pub write_numbers-requires-then-made-eq1-clause-fit : goal.write_numbers-requires-then-made-eq1-clause-fit
+write_numbers-requires-then-made-eq1-clause-fit c =
     prices_fit c.args.entries.now c.args.prices.now c.plan_book-made.ensures c.in-Planned.is c.if-made-eq1.true
 
 pub plan-requires : goal.plan-requires

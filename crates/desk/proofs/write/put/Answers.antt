@@ -1,6 +1,6 @@
-use native.Mathlib.Omega.{arith}
-use Rattle.desk.specs.Writing.{putting_more}
+-- `desk::write::put` meets its contract: the part of the list that is written becomes the last bytes of the number. Assumes nothing.
+use Rattle.desk.specs.Writing.{part_put}
 use Rattle.desk.proofs.write.put.Goals as goal
 
-pub loop-left-preserved : goal.loop-left-preserved
-loop-left-preserved c = putting_more (omega arith) (omega arith) c.loop-left.invariant
+pub returns : goal.returns
+returns c = part_put c.requires.0 c.requires.1 (rw c.to_be_bytes-bytes.ensures at c.copy_from_slice.ensures.after)
