@@ -13,19 +13,3 @@ pub struct Columns<'a> {
     ghost b_even: { length b.now ≡ length a.now },
     ghost profit_even: { length profit.now ≡ length a.now },
 }
-
-impl Columns<'_> {
-    // How many spans there are.
-    pub fn spans(&self) -> usize
-        ensures { result ≡ length self.now.limits.now }
-    {
-        self.limits.len()
-    }
-
-    // How many requests.
-    pub fn count(&self) -> usize
-        ensures { result ≡ length self.now.a.now }
-    {
-        self.a.len()
-    }
-}

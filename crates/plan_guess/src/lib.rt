@@ -2,7 +2,7 @@
 // but safety, and crate `plan_order` tests it. What could grow too large saturates: no book's numbers come near that.
 #![tactic(auto)]
 
-ghost use Rattle.std.specs.Prelude.{◌≤◌, ◌<◌, length};
+ghost use Rattle.std.specs.Prelude.{◌≡◌, ◌≤◌, ◌<◌, length};
 
 mod bidders;
 mod buckets;
@@ -41,27 +41,22 @@ fn try_prices(limits: &[usize], requests: &Requests, profits: Extremes, order: &
     }
 }
 
-// The order that is tried: by worth, or by guessed prices where many ask for the same spans and that brings more. (Whole arrays and a count are what
-// `plan_order::ordered` is lent, whose contract stays: they are cut here.)
+// The order that is tried: by worth, or by guessed prices where many ask for the same spans and that brings more. Request i is over the cells lo[i] to
+// hi[i] - 1 and brings profit[i].
 pub fn proposed(
-    cells: usize,
-    count: usize,
-    limits: &[usize; 64],
-    lo: &[usize; 256],
-    hi: &[usize; 256],
-    profit: &[usize; 256],
+    limits: &[usize],
+    lo: &[usize],
+    hi: &[usize],
+    profit: &[usize],
     order: &mut [usize; 256],
 )
-    requires { count ≤ 256 }
+    requires even { (length hi.now ≡ length lo.now) × (length profit.now ≡ length lo.now) }
+    requires few { length lo.now ≤ 256 }
 {
-    let requests = Requests {
-        lo: &lo[..count],
-        hi: &hi[..count],
-        profit: &profit[..count],
-    };
+    let requests = Requests { lo, hi, profit };
     let profits = Extremes::of(requests.profit);
     by_worth(&requests, profits, order);
-    if cells < 64 {
-        try_prices(&limits[..cells], &requests, profits, order);
+    if limits.len() < 64 {
+        try_prices(limits, &requests, profits, order);
     }
 }

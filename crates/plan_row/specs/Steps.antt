@@ -1,8 +1,9 @@
 -- What the functions of this crate promise: a line's columns laid as a row, its best set, and the prices of its cells. Assumes nothing.
-use Rattle.std.specs.Prelude.{Bool, List, ◌≡◌, ℕ, suc, ◌≤◌, ◌<◌, min, max, get_or, ℤ, pos}
+use Rattle.std.specs.Prelude.{Bool, List, ◌≡◌, ℕ, suc, ◌≤◌, ◌<◌, min, max, get_or, length, ℤ, pos}
 use Rattle.base_sums.specs.At.{at, NumbersUpto}
 use Rattle.base_sums.specs.Filled.{Filled}
 use Rattle.base_signed.specs.Parts.{up, dn}
+use Rattle.base_columns.specs.declared.Columns.{Columns}
 use Rattle.law_row.specs.Clamp.{clamp}
 use Rattle.law_flow.specs.Balanced.{price_at}
 use Rattle.plan_insert.specs.State.{depth, lowest, Standing}
@@ -22,6 +23,10 @@ pub record CanSolve (cells count : ℕ) (limits a b profits : List ℕ) : Type 0
   pub b_node : (i : ℕ) → i < count → at b i ≤ cells
   pub ends_differ : (i : ℕ) → i < count → at a i ≡ at b i → ⊥
   pub limits_upto : (j : ℕ) → j < cells → at limits j ≤ 1000
+
+-- lent columns that are one
+abbrev pub SolvableColumns : Columns → Type 0
+SolvableColumns c = CanSolve (length c.limits.now) (length c.a.now) c.limits.now c.a.now c.b.now c.profit.now
 
 -- the candidates, and what the row planner left: `free` was the room before it kept any, `room` is what is left of it
 pub record Solves (cells count : ℕ) (limits a b profits lo hi : List ℕ) (kept : List Bool) (dist : List ℤ) : Type 0 where

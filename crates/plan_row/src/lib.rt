@@ -1,30 +1,26 @@
 // A line's columns as a row, and the prices of its cells.
 #![tactic(auto)]
 
-ghost use Rattle.std.specs.Prelude.{◌≡◌, ◌-◌, min};
+ghost use Rattle.std.specs.Prelude.{◌≡◌, ◌-◌, min, length};
 ghost use Rattle.base_sums.specs.At.{NumbersBelow, NumbersUpto};
 ghost use Rattle.base_signed.specs.Parts.{dn};
-ghost use Rattle.plan_row.specs.Steps.{Candidates, CanSolve, Solves, Falls, prices_of};
+ghost use Rattle.plan_row.specs.Steps.{Candidates, SolvableColumns, Solves, Falls, prices_of};
 ghost use Rattle.plan_row.specs.Placing.{CanPrice, Placed};
 ghost use Rattle.plan_row.specs.Reordered.{Arranged, PutBack};
 
+use base_columns::Columns;
+
 // The lower and the upper end of each request, and its cost: minus its profit.
-fn lay(
-    count: usize,
-    a: &[usize; 256],
-    b: &[usize; 256],
-    profit: &[usize; 256],
-    lo: &mut [usize; 256],
-    hi: &mut [usize; 256],
-    cost: &mut [i64; 256],
-)
-    requires { NumbersUpto 1000000 count profit.now }
-    ensures { Candidates count a.now b.now profit.now lo.new hi.new cost.new }
+fn lay(columns: &Columns, lo: &mut [usize; 256], hi: &mut [usize; 256], cost: &mut [i64; 256])
+    requires { NumbersUpto 1000000 (length columns.now.a.now) columns.now.profit.now }
+    ensures { Candidates (length columns.now.a.now) columns.now.a.now columns.now.b.now columns.now.profit.now lo.new hi.new cost.new }
 {
-    for i in 0..count {
+    let a = columns.a;
+    let b = columns.b;
+    for i in 0..columns.a.len() {
         lo[i] = a[i].min(b[i]);
         hi[i] = a[i].max(b[i]);
-        cost[i] = -(profit[i] as i64);
+        cost[i] = -(columns.profit[i] as i64);
     }
 }
 
@@ -60,36 +56,52 @@ fn put_back(count: usize, place: &[usize; 256], keeps: &[bool; 256], kept: &mut 
     }
 }
 
+// A row's best set: the cells from lo[i] to hi[i] - 1 are request i's, `kept` says which requests are kept, and a cell's price is what `dist` falls by along it.
+#[derive(Clone, Copy)]
+pub struct BestSet {
+    pub lo: [usize; 256],
+    pub hi: [usize; 256],
+    pub kept: [bool; 256],
+    pub dist: [i64; 128],
+}
+
 // Lays the requests on the row and finds its best set. They are inserted in an order that is likely to be quick: which of several best sets is found may depend on it, and the time.
-pub fn solve(
-    cells: usize,
-    count: usize,
-    limits: &[usize; 64],
-    a: &[usize; 256],
-    b: &[usize; 256],
-    profit: &[usize; 256],
-    lo: &mut [usize; 256],
-    hi: &mut [usize; 256],
-    kept: &mut [bool; 256],
-    dist: &mut [i64; 128],
-)
-    requires { CanSolve cells count limits.now a.now b.now profit.now }
-    ensures { Solves cells count limits.now a.now b.now profit.now lo.new hi.new kept.new dist.new }
+pub fn solve(columns: &Columns) -> BestSet
+    requires { SolvableColumns columns.now }
+    ensures { Solves (length columns.now.limits.now) (length columns.now.a.now) columns.now.limits.now columns.now.a.now columns.now.b.now columns.now.profit.now result.lo result.hi result.kept result.dist }
 {
-    let mut cost = [0i64; 256];
-    let mut room = [0usize; 128];
-    let mut order = [0usize; 256];
-    let mut place = [0usize; 256];
-    let mut los = [0usize; 256];
-    let mut his = [0usize; 256];
-    let mut costs = [0i64; 256];
+    let cells = columns.limits.len();
+    let count = columns.a.len();
+    let mut lo = [0; 256];
+    let mut hi = [0; 256];
+    let mut kept = [false; 256];
+    let mut dist = [0; 128];
+    let mut cost = [0; 256];
+    let mut room = [0; 128];
+    let mut order = [0; 256];
+    let mut place = [0; 256];
+    let mut los = [0; 256];
+    let mut his = [0; 256];
+    let mut costs = [0; 256];
     let mut keep = [false; 256];
-    lay(count, a, b, profit, lo, hi, &mut cost);
-    base_lists::copy(cells, limits, &mut room);
-    plan_order::ordered(cells, count, limits, lo, hi, profit, &mut order, &mut place);
-    arrange(count, &order, lo, hi, &cost, &mut los, &mut his, &mut costs);
-    plan_insert::plan_row(cells, count, &los, &his, &costs, &mut keep, &mut room, dist);
-    put_back(count, &place, &keep, kept);
+    lay(columns, &mut lo, &mut hi, &mut cost);
+    base_lists::copy(cells, columns.limits, &mut room);
+    plan_order::ordered(
+        columns.limits,
+        &lo[..count],
+        &hi[..count],
+        columns.profit,
+        &mut order,
+        &mut place,
+    );
+    arrange(
+        count, &order, &lo, &hi, &cost, &mut los, &mut his, &mut costs,
+    );
+    plan_insert::plan_row(
+        cells, count, &los, &his, &costs, &mut keep, &mut room, &mut dist,
+    );
+    put_back(count, &place, &keep, &mut kept);
+    BestSet { lo, hi, kept, dist }
 }
 
 // The price of each cell, at its place: what the distance falls by along the cell, and no more than 1,000,000.

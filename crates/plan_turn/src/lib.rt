@@ -70,8 +70,8 @@ pub fn turn_columns(ring: &Columns, j: usize) -> CutColumns
     let mut a = [0; 256];
     let mut b = [0; 256];
     turn_limits(j, ring.limits, &mut limits);
-    turn_ends(ring.spans(), j, ring.a, &mut a);
-    turn_ends(ring.spans(), j, ring.b, &mut b);
+    turn_ends(ring.limits.len(), j, ring.a, &mut a);
+    turn_ends(ring.limits.len(), j, ring.b, &mut b);
     CutColumns { limits, a, b }
 }
 
@@ -84,8 +84,8 @@ impl CutColumns {
         ensures profit { result.profit ≡ ring.now.profit }
         ensures turned { (j : ℕ) → Turned (length ring.now.limits.now) j (length ring.now.a.now) ring.now.limits.now ring.now.a.now ring.now.b.now self.now.limits self.now.a self.now.b → Turned (length ring.now.limits.now) j (length ring.now.a.now) ring.now.limits.now ring.now.a.now ring.now.b.now result.limits.now result.a.now result.b.now }
     {
-        let spans = ring.spans() - 1;
-        let count = ring.count();
+        let spans = ring.limits.len() - 1;
+        let count = ring.a.len();
         Columns {
             limits: &self.limits[..spans],
             a: &self.a[..count],

@@ -43,7 +43,7 @@ fn surplus(columns: &Columns, toll: &[usize; 64]) -> usize
     ensures { result ≡ Σ (length columns.now.a.now) (gain_at columns.now.a.now columns.now.b.now columns.now.profit.now toll.now) }
 {
     let mut sum = 0;
-    for i in 0..columns.count() {
+    for i in 0..columns.a.len() {
         let fare = fare_of(columns.a[i], columns.b[i], toll);
         sum += columns.profit[i].saturating_sub(fare);
     }

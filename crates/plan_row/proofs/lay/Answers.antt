@@ -13,6 +13,6 @@ paid gain upto = minus (pos 0) (pos gain) refl (to_z_pos w64 (omega arith)) (wit
 pub loop-i-preserved : goal.loop-i-preserved
 loop-i-preserved c =
     let l = c.loop-i in
-    let gain : ℕ = at c.args.profit.now l.i in
+    let gain : ℕ = at c.args.columns.now.profit.now l.i in
     let z = neg (pos gain) in
     rw (paid gain (c.requires.upto l.i (omega arith))).again (laying_more _ l.invariant (omega arith) (omega arith) (omega arith) z.rise z.fall)

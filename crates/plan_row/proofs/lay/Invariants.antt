@@ -3,4 +3,4 @@ use Rattle.plan_row.specs.Laying.{Laying}
 use Rattle.plan_row.proofs.lay.Given as goal
 
 abbrev pub invariant-loop-i : goal.invariant-loop-i
-invariant-loop-i l = Laying l.i l.a l.b l.profit l.lo l.hi l.cost
+invariant-loop-i l = Laying l.i l.a l.b l.columns.profit.now l.lo l.hi l.cost
