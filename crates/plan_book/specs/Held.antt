@@ -1,6 +1,6 @@
 -- The planner on an accepted book. 12 comes first; then a line's plan is the line planner's and a ring's is the ring planner's, and each is a plan as the
 -- operations have it. Assumes nothing.
-use Rattle.std.specs.Prelude.{Bool, true, false, List, ◌≡◌, refl, ℕ, replicate}
+use Rattle.std.specs.Prelude.{Bool, true, false, List, ◌≡◌, refl, ℕ, replicate, Ok}
 use Rattle.std.proofs.Common.{⊎_elim, ◌∙◌, arith}
 use Rattle.std.proofs.Math.Path.{sym, subst}
 use Rattle.base_sums.specs.Each.{of_yes, decided}
@@ -19,12 +19,11 @@ use Rattle.read_book.specs.declared.Answer.TheVariants.{Accepted, Refused}
 use Rattle.read_book.specs.Says.{Reads, book_from}
 use Rattle.read_book.specs.Accepted.{refused_read}
 use Rattle.work_columns.specs.Seam.{HeldBook, accepted}
-use Rattle.plan_line.specs.declared.Solved as Solving
-use Rattle.plan_line.specs.declared.Solved.{Solved}
+use Rattle.plan_line.specs.declared.LinePlan.{LinePlan}
 use Rattle.plan_line.specs.Promise.{CanPlanLine, LinePlanned}
+use Rattle.plan_ring.specs.declared.RingPlan.{RingPlan}
 use Rattle.plan_ring.specs.Promise.{CanPlanRing, RingPlanned}
 use Rattle.plan_book.specs.declared.BookPlan.{BookPlan}
-use Rattle.plan_book.specs.declared.Answer.{Answer}
 use Rattle.plan_book.specs.declared.Answer.TheVariants as Answers
 use Rattle.plan_book.specs.declared.Found.{Found}
 use Rattle.plan_book.specs.Promise.{answered, planned_of, Refusing, PlanOf, BookPlanned}
@@ -38,7 +37,7 @@ pub record HeldPlanned (book : Book) (entryRoom priceRoom : ℕ) (r : BookPlan) 
 abbrev pub beside : Network → ℕ → (a b : List ℕ) → Found → BookPlan
 beside net n a b found =
     record {
-      answer = found.answer;
+      answer = answered (Ok found);
       shape = net.shape;
       spans = spans_of net.shape net.nodes;
       count = n;
@@ -97,19 +96,19 @@ refuses refusal =
     }
 
 -- what the planner of its shape answers is the plan of the book
-module _ {net : Network} {n : ℕ} {limits a b profits : List ℕ} (held : HeldBook net n limits a b profits) {entries prices : List ℕ} {solved : Solved} {answer : Answer} where
+module _ {net : Network} {n : ℕ} {limits a b profits : List ℕ} (held : HeldBook net n limits a b profits) where
   plan_of :
-      {earned number shown : ℕ} → solved ≡ Solving.TheVariants.Planned earned number → answer ≡ answered solved shown → Planned held.book (at entries) earned number shown
-      → (held.book.shape ≡ 1 → Priced held.book (at entries) (at prices)) → Vacant 0 (count held.book) 256 entries
-      → (held.book.shape ≡ 1 → Vacant 0 (spans held.book) 64 prices) → (held.book.shape ≡ 2 → prices ≡ replicate 64 0)
-      → PlanOf held.book (beside net n a b (record { answer = answer; entries = entries; prices = prices }))
+      {found : Found} → Planned held.book (at found.entries) found.earned found.number found.cut
+      → (held.book.shape ≡ 1 → Priced held.book (at found.entries) (at found.prices)) → Vacant 0 (count held.book) 256 found.entries
+      → (held.book.shape ≡ 1 → Vacant 0 (spans held.book) 64 found.prices) → (held.book.shape ≡ 2 → found.prices ≡ replicate 64 0)
+      → PlanOf held.book (beside net n a b found)
   unfolding answered planned_of spans
-  plan_of {earned} {number} {shown} solved-is says planned priced entries_end prices_end no_prices =
+  plan_of {found} planned priced entries_end prices_end no_prices =
       record {
-        earned = earned;
-        number = number;
-        cut = shown;
-        says = rw (says, solved-is);
+        earned = found.earned;
+        number = found.number;
+        cut = found.cut;
+        says = refl;
         planned = planned;
         priced = priced;
         sound = held.sound;
@@ -125,16 +124,18 @@ module _ {net : Network} {n : ℕ} {limits a b profits : List ℕ} (held : HeldB
         ring_prices = no_prices;
       }
 
-  pub on_line : net.shape ≡ 1 → LinePlanned held.book solved entries prices → answer ≡ answered solved 65535 → PlanOf held.book (beside net n a b (record { answer = answer; entries = entries; prices = prices }))
-  on_line e made says =
+  pub on_line :
+      {plan : LinePlan} → net.shape ≡ 1 → LinePlanned held.book plan
+      → PlanOf held.book (beside net n a b (record { earned = plan.earned; number = plan.number; cut = 65535; entries = plan.entries; prices = plan.prices }))
+  on_line {plan} e made =
       let line = (held_line e held).columns.held.line.line in
-      plan_of made.says says
+      plan_of {found = record { earned = plan.earned; number = plan.number; cut = 65535; entries = plan.entries; prices = plan.prices }}
       (record {
         fair = made.best_plan.fair;
         best_there = rw (line_plan held.book line) made.best_plan;
         channels = rw (line_plan held.book line) made.by_rule;
-        earned_is = refl;
-        number_is = refl;
+        earned_is = made.earned_is;
+        number_is = made.number_is;
         cut_is = sym (line_shown held.book line);
       })
       (λ l. made.priced)
@@ -143,17 +144,17 @@ module _ {net : Network} {n : ℕ} {limits a b profits : List ℕ} (held : HeldB
       (λ l. absurd (omega (arith, line)))
 
   pub on_ring :
-      {shown : ℕ} → (net.shape ≡ 1 → ⊥) → RingPlanned held.book solved shown entries → prices ≡ replicate 64 0 → answer ≡ answered solved shown
-      → PlanOf held.book (beside net n a b (record { answer = answer; entries = entries; prices = prices }))
-  on_ring other made no_prices says =
+      {plan : RingPlan} {prices : List ℕ} → (net.shape ≡ 1 → ⊥) → RingPlanned held.book plan → prices ≡ replicate 64 0
+      → PlanOf held.book (beside net n a b (record { earned = plan.earned; number = plan.number; cut = plan.cut; entries = plan.entries; prices = prices }))
+  on_ring {plan} {prices} other made no_prices =
       let ring = (held_ring other held).columns.ring.ring in
-      plan_of made.says says
+      plan_of {found = record { earned = plan.earned; number = plan.number; cut = plan.cut; entries = plan.entries; prices = prices }}
       (record {
         fair = made.fair;
         best_there = rw (ring_plan held.book ring) made.best_plan;
         channels = rw (ring_plan held.book ring) made.by_rule;
-        earned_is = refl;
-        number_is = refl;
+        earned_is = made.earned_is;
+        number_is = made.number_is;
         cut_is = made.cut_is ∙ sym (ring_shown held.book ring);
       })
       (λ l. absurd (omega (arith, ring)))

@@ -1,5 +1,5 @@
 -- What the planner promises of any file, in the words of 01. Assumes nothing.
-use Rattle.std.specs.Prelude.{List, ◌≡◌, ℕ, ◌<◌, replicate}
+use Rattle.std.specs.Prelude.{List, ◌≡◌, ℕ, ◌<◌, replicate, Result, Ok, Err}
 use Rattle.base_sums.specs.Vacant.{Vacant}
 use Rattle.paper_book.specs.Book.{Book, spans, count, end_a, end_b}
 use Rattle.paper_book.specs.Columns.{at}
@@ -7,16 +7,16 @@ use Rattle.paper_book.specs.Sound.{Sound}
 use Rattle.paper_book.specs.Reading.{Outcome, done, refused}
 use Rattle.paper_rules.specs.Operations as O
 use Rattle.paper_rules.specs.Operations.{plannable_in, Priced}
-use Rattle.plan_line.specs.declared.Solved as Solving
-use Rattle.plan_line.specs.declared.Solved.{Solved}
+use Rattle.plan_channels.specs.declared.NoneLeft.{NoneLeft}
 use Rattle.plan_book.specs.declared.Answer.{Answer}
 use Rattle.plan_book.specs.declared.Answer.TheVariants.{Planned, Refused}
 use Rattle.plan_book.specs.declared.BookPlan.{BookPlan}
+use Rattle.plan_book.specs.declared.Found.{Found}
 
 -- the answer of a line's or a ring's plan; its second case is refusal 15, which never happens
-unfoldable pub answered : Solved → ℕ → Answer
-answered (Solving.TheVariants.Planned earned number) cut = Planned earned number cut
-answered (Solving.TheVariants.NoneLeft request) cut = Refused (record { number = 15; place = request })
+unfoldable pub answered : Result Found NoneLeft → Answer
+answered (Ok found) = Planned found.earned found.number found.cut
+answered (Err none) = Refused (record { number = 15; place = none.request })
 
 -- what the planner's answer means: a plan's earnings, number kept and cut, or a refusal's number and place
 unfoldable pub planned_of : Answer → Outcome (ℕ × ℕ × ℕ)

@@ -2,13 +2,13 @@
 // desk's lists or printed is made from its answer.
 #![tactic(auto)]
 
-ghost use Rattle.std.specs.Prelude.{◌≡◌};
+ghost use Rattle.std.specs.Prelude.{IsOkAnd};
 ghost use Rattle.read_book.specs.Says.{book_from};
 ghost use Rattle.work_columns.specs.Seam.{HeldBook, LentBook};
-ghost use Rattle.plan_book.specs.Promise.{answered, Refusing, PlanOf, BookPlanned};
+ghost use Rattle.plan_book.specs.Promise.{Refusing, PlanOf, BookPlanned};
 ghost use Rattle.plan_book.specs.Held.{beside, HeldPlanned};
 
-use plan_line::Solved;
+use plan_channels::NoneLeft;
 use read_record::{Network, Refusal, Request};
 use work_columns::RequestColumns;
 
@@ -53,27 +53,13 @@ fn refuse(refusal: Refusal) -> BookPlan
     }
 }
 
-// The answer of a line's or a ring's plan. (Refusal 15 is proved never to happen.)
-fn answer_of(solved: Solved, cut: usize) -> Answer
-    ensures { result ≡ answered solved cut }
-{
-    match solved {
-        Solved::Planned { earned, number } => Answer::Planned {
-            earned,
-            number,
-            cut,
-        },
-        Solved::NoneLeft(request) => Answer::Refused(Refusal {
-            number: 15,
-            place: request,
-        }),
-    }
-}
-
-// What the planner of a line or of a ring finds: the answer, an entry for each request and, on a line, a price for each span.
+// What the planner of a line or of a ring finds: what its plan earns, how many it keeps, its cut, an entry for each request and, on a line, a price for each
+// span.
 #[derive(Clone, Copy)]
 struct Found {
-    answer: Answer,
+    earned: usize,
+    number: usize,
+    cut: usize,
     entries: [usize; 256],
     prices: [usize; 64],
 }
@@ -86,30 +72,32 @@ fn find(
     a: &[usize; 256],
     b: &[usize; 256],
     profit: &[usize; 256],
-) -> Found
+) -> Result<Found, NoneLeft>
     requires { HeldBook net count limits.now a.now b.now profit.now }
-    ensures { (held : HeldBook net count limits.now a.now b.now profit.now) → PlanOf held.book (beside net count a.now b.now result) }
+    ensures { (held : HeldBook net count limits.now a.now b.now profit.now) → IsOkAnd result (λ found. PlanOf held.book (beside net count a.now b.now found)) }
 {
     if net.shape == 1 {
-        let plan = plan_line::plan_line(net.nodes, net.channels, count, limits, a, b, profit);
-        let solved = plan.answer;
+        let plan = plan_line::plan_line(net.nodes, net.channels, count, limits, a, b, profit)?;
         let entries = plan.entries;
         let prices = plan.prices;
-        return Found {
-            answer: answer_of(solved, 65535),
+        return Ok(Found {
+            earned: plan.earned,
+            number: plan.number,
+            cut: 65535,
             entries,
             prices,
-        };
+        });
     }
-    let plan = plan_ring::plan_ring(net.nodes, net.channels, count, limits, a, b, profit);
-    let solved = plan.answer;
+    let plan = plan_ring::plan_ring(net.nodes, net.channels, count, limits, a, b, profit)?;
     let entries = plan.entries;
     let prices = [0usize; 64];
-    Found {
-        answer: answer_of(solved, plan.cut),
+    Ok(Found {
+        earned: plan.earned,
+        number: plan.number,
+        cut: plan.cut,
         entries,
         prices,
-    }
+    })
 }
 
 // The plan of an accepted book, or 12.
@@ -134,19 +122,30 @@ fn plan_held(
     let a = cols.a;
     let b = cols.b;
     let profit = cols.profit;
-    let found = find(net, count, &limits, &a, &b, &profit);
-    let answer = found.answer;
-    let entries = found.entries;
-    let prices = found.prices;
-    BookPlan {
-        answer,
-        shape: net.shape,
-        spans,
-        count,
-        a,
-        b,
-        entries,
-        prices,
+    match find(net, count, &limits, &a, &b, &profit) {
+        Ok(found) => {
+            let entries = found.entries;
+            let prices = found.prices;
+            BookPlan {
+                answer: Answer::Planned {
+                    earned: found.earned,
+                    number: found.number,
+                    cut: found.cut,
+                },
+                shape: net.shape,
+                spans,
+                count,
+                a,
+                b,
+                entries,
+                prices,
+            }
+        }
+        // proved never to happen
+        Err(none) => refuse(Refusal {
+            number: 15,
+            place: none.request,
+        }),
     }
 }
 

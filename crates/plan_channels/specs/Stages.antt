@@ -1,6 +1,6 @@
 -- Channels are given in the order of the rule, by first cell, then by number. When a turn in that order has come, exactly the kept ones that had theirs
 -- have a channel, and it is the one that the rule gives them; past the last cell all kept ones are before, so they follow the rule. Assumes nothing.
-use Rattle.std.specs.Prelude.{Bool, true, false, List, ◌++◌, ◌≡◌, refl, ℕ, ◌+◌, ◌≤◌, ◌<◌, replicate, length}
+use Rattle.std.specs.Prelude.{Bool, true, false, List, ◌++◌, ◌≡◌, refl, ℕ, ◌+◌, ◌≤◌, ◌<◌, replicate, length, Result, Ok, IsOk, ⊤}
 use Rattle.std.proofs.Common.{⊎_elim, sym, ◌∙◌, arith}
 use Rattle.std.proofs.Math.ListN.{get_or-append}
 use Rattle.std.proofs.lemmas.List.{length-replicate}
@@ -14,8 +14,7 @@ use Rattle.plan_channels.specs.HandOut.{at, flag, row_on, CanHandOut, HandedOut}
 use Rattle.plan_channels.specs.Had.{Had, SameHad, had_pass, had_next}
 use Rattle.plan_channels.specs.Latest.{Latest, latest_start, latest_same}
 use Rattle.plan_channels.specs.Lists.{Leads}
-use Rattle.plan_channels.specs.declared.Given.{Given}
-use Rattle.plan_channels.specs.declared.Given.TheVariants.{All}
+use Rattle.plan_channels.specs.declared.NoneLeft.{NoneLeft}
 
 -- the channels by the rule: there is one such choice (`ruled_exists` and `ruled_once` of the crate row)
 abbrev pub rule : ℕ → ℕ → ℕ → List ℕ → List ℕ → List Bool → ℕ → ℕ
@@ -30,8 +29,8 @@ pub record Stage (cells count k : ℕ) (lo hi : List ℕ) (kept : List Bool) (ch
   pub latest : Latest 128 count lo hi kept channel ends v i
 
 -- what giving the channels of node v comes to; the number of cells plays no part in it, so it is said for each
-pub record NodeGiven (v count k : ℕ) (lo hi : List ℕ) (kept : List Bool) (channel ends : List ℕ) (given : Given) (channel' ends' : List ℕ) : Type 0 where
-  pub all : given ≡ All
+pub record NodeGiven (v count k : ℕ) (lo hi : List ℕ) (kept : List Bool) (channel ends : List ℕ) (given : Result ⊤ NoneLeft) (channel' ends' : List ℕ) : Type 0 where
+  pub all : IsOk given
   pub next : (cells : ℕ) → Stage cells count k lo hi kept channel ends v 0 → Stage cells count k lo hi kept channel' ends' (v + 1) 0
 
 -- ---- what the rule gives
@@ -83,7 +82,7 @@ module _ {cells count k : ℕ} {lo hi : List ℕ} {kept : List Bool} {channel : 
       record { can = can; long = long; given = λ j h. absurd (omega (arith, h.early)); only = λ j l h. absurd (omega (arith, none.is j l)); latest = latest_start }
 
   -- every kept one begins before the last node
-  pub stage_end : {ends : List ℕ} → Stage cells count k lo hi kept channel ends cells 0 → HandedOut cells count k lo hi kept All channel
+  pub stage_end : {ends : List ℕ} → Stage cells count k lo hi kept channel ends cells 0 → HandedOut cells count k lo hi kept (Ok tt) channel
   stage_end s = record { all = refl; ruled = record { is = is }; upto = channel_upto s; none = none }
     where
       every : (j : ℕ) → j < count → flag kept j ≡ true → at channel j ≡ rule cells count k lo hi kept j

@@ -2,20 +2,17 @@
 // channel that no earlier one that shares a cell holds.
 #![tactic(auto)]
 
-ghost use Rattle.std.specs.Prelude.{◌≡◌, ℕ, ◌≤◌, ◌<◌, length};
+ghost use Rattle.std.specs.Prelude.{ℕ, ◌≤◌, ◌<◌};
 ghost use Rattle.base_sums.specs.At.{NumbersBelow};
-ghost use Rattle.base_sums.specs.Filled.{Filled};
-ghost use Rattle.base_sums.specs.Lowest.{lowest_free};
 ghost use Rattle.plan_channels.specs.HandOut.{CanHandOut, HandedOut};
 ghost use Rattle.plan_channels.specs.Latest.{held_past, LowestFound};
 ghost use Rattle.plan_channels.specs.Lists.{ListedByNode};
 ghost use Rattle.plan_channels.specs.Stages.{Stage, NodeGiven};
 
-// Whether every kept one has a channel, or the one that finds none of 1 to k left (refusal 15).
-#[derive(Clone, Copy)]
-pub enum Given {
-    All,
-    NoneLeft(usize),
+// The kept one that finds none of the channels 1 to k left (refusal 15, which is proved never to happen).
+#[derive(Clone, Copy, Debug, PartialEq, Eq)]
+pub struct NoneLeft {
+    pub request: usize,
 }
 
 // The lowest of the channels 1 to k whose latest connection ends no later than node `from`.
@@ -61,7 +58,7 @@ fn give_from(
     after: &[usize; 256],
     channel: &mut [usize; 256],
     ends: &mut [usize; 128],
-) -> Given
+) -> Result<(), NoneLeft>
     requires v_bound { v < 128 }
     requires listed_by_node { ListedByNode count 0 lo.now kept.now first.now after.now }
     requires by_index { (cells : ℕ) × Stage cells count k lo.now hi.now kept.now channel.old ends.old v 0 }
@@ -70,13 +67,13 @@ fn give_from(
     let mut i = first[v];
     while i < count {
         let Some(c) = lowest_past(k, ends, v) else {
-            return Given::NoneLeft(i);
+            return Err(NoneLeft { request: i });
         };
         channel[i] = c;
         ends[c] = hi[i];
         i = after[i];
     }
-    Given::All
+    Ok(())
 }
 
 // Gives every kept one of the first `count` its channel, and every other one 0.
@@ -88,23 +85,20 @@ pub fn hand_out(
     hi: &[usize; 256],
     kept: &[bool; 256],
     channel: &mut [usize; 256],
-) -> Given
+) -> Result<(), NoneLeft>
     requires { CanHandOut cells count k lo.now hi.now kept.now }
     ensures { HandedOut cells count k lo.now hi.now kept.now result channel.new }
 {
     channel[..count].fill(0);
-    // 256 leads to none: every number is below it
+    // 256 leads to none: every number is below it. (No Option: `begin_lists` is called by `check_rules` too, and keeps its signature.)
     let mut first = [256; 128];
     let mut after = [0; 256];
     begin_lists(count, lo, kept, &mut first, &mut after);
     let mut ends = [0; 128];
     for v in 0..cells {
-        let given = give_from(
+        give_from(
             v, count, k, lo, hi, kept, &first, &after, channel, &mut ends,
-        );
-        let Given::All = given else {
-            return given;
-        };
+        )?;
     }
-    Given::All
+    Ok(())
 }

@@ -7,8 +7,7 @@ use Rattle.paper_rules.specs.Plans.{number_kept, earnings, Best}
 use Rattle.paper_rules.specs.Channels.{by_rule}
 use Rattle.paper_rules.specs.Operations.{Priced}
 use Rattle.law_line.specs.HeldLine.{HeldLine}
-use Rattle.plan_line.specs.declared.Solved.{Solved}
-use Rattle.plan_line.specs.declared.Solved.TheVariants.{Planned}
+use Rattle.plan_line.specs.declared.LinePlan.{LinePlan}
 
 -- the columns hold a line's accepted book; it has one span less than nodes
 pub record LineColumns (nodes count : ℕ) (limits a b profits : List ℕ) : Type 0 where
@@ -21,11 +20,12 @@ pub record CanPlanLine (nodes channels count : ℕ) (limits a b profits : List �
   pub channels_is : channels ≡ columns.book.channels
 
 -- A best plan with the channels of the rule; earnings and number kept are sums over its entries; prices up to 1,000,000 at which the checker accepts it.
--- No entry stands past the requests and no price past the spans. Refusal 15 is never the answer.
-pub record LinePlanned (book : Book) (answer : Solved) (entries prices : List ℕ) : Type 0 where
-  pub says : answer ≡ Planned (earnings book (at entries)) (number_kept book (at entries))
-  pub best_plan : Best book (at entries)
-  pub by_rule : by_rule book (at entries) ≡ true
-  pub priced : Priced book (at entries) (at prices)
-  pub entries_end : Vacant 0 (count book) 256 entries
-  pub prices_end : Vacant 0 (spans book) 64 prices
+-- No entry stands past the requests and no price past the spans. (That there is a plan, and never refusal 15, `plan_line` says beside it.)
+pub record LinePlanned (book : Book) (plan : LinePlan) : Type 0 where
+  pub earned_is : plan.earned ≡ earnings book (at plan.entries)
+  pub number_is : plan.number ≡ number_kept book (at plan.entries)
+  pub best_plan : Best book (at plan.entries)
+  pub by_rule : by_rule book (at plan.entries) ≡ true
+  pub priced : Priced book (at plan.entries) (at plan.prices)
+  pub entries_end : Vacant 0 (count book) 256 plan.entries
+  pub prices_end : Vacant 0 (spans book) 64 plan.prices

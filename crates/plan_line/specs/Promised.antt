@@ -1,8 +1,8 @@
 -- How planning a line meets its promise: from the columns of a line's book to a row that can be solved, from what solves it to channels and prices,
 -- and from these to a best plan that the checker accepts. Every step is a law of the crates below. Assumes nothing.
-use Rattle.std.specs.Prelude.{◌≡◌, refl, Bool, true, List, ◌++◌, ℕ, suc, ◌-◌, ◌≤◌, ◌<◌, length, drop, replicate, ℤ}
+use Rattle.std.specs.Prelude.{◌≡◌, refl, Bool, true, List, ◌++◌, ℕ, suc, ◌-◌, ◌≤◌, ◌<◌, length, drop, replicate, ℤ, Result, ⊤}
 use Rattle.std.proofs.Common.{sym, ◌∙◌}
-use Rattle.std.proofs.Math.Path.{ap, ap₂, subst}
+use Rattle.std.proofs.Math.Path.{ap, subst}
 use native.Mathlib.Omega.{arith}
 use Rattle.base_sums.specs.At.{flag, NumbersUpto}
 use Rattle.base_sums.specs.Sums.{when, Σ-ext}
@@ -26,11 +26,10 @@ use Rattle.law_line.specs.Found.{rule_obeys}
 use Rattle.law_line.specs.Ceiling.{yes_best}
 use Rattle.plan_insert.specs.State.{row_in}
 use Rattle.plan_channels.specs.HandOut.{row_on, CanHandOut, HandedOut}
-use Rattle.plan_channels.specs.declared.Given.{Given}
+use Rattle.plan_channels.specs.declared.NoneLeft.{NoneLeft}
 use Rattle.plan_row.specs.Steps.{CanSolve, Solves, Falling, prices_of}
 use Rattle.plan_row.specs.Solving.{real_intervals}
 use Rattle.plan_row.specs.Placing.{Placed}
-use Rattle.plan_line.specs.declared.Solved.TheVariants.{Planned}
 use Rattle.plan_line.specs.Promise.{LineColumns, LinePlanned}
 use Rattle.plan_line.specs.Steps.{Entered, sum_of, number_of}
 use Rattle.plan_line.specs.AsRow.{same_intervals, same_row}
@@ -108,7 +107,7 @@ module _ {nodes count : ℕ} {limits a b profits : List ℕ} (w : LineColumns no
                 );
           }
 
-      module _ {k : ℕ} (its : k ≡ w.book.channels) {given : Given} {channels : List ℕ} (h : HandedOut (nodes - 1) count k lo hi keeps given channels) where
+      module _ {k : ℕ} (its : k ≡ w.book.channels) {given : Result ⊤ NoneLeft} {channels : List ℕ} (h : HandedOut (nodes - 1) count k lo hi keeps given channels) where
         pub channels_small : NumbersUpto 96 count channels
         channels_small = record { few = can_solve.profits_in.few; upto = λ i l. omega (arith, h.upto i l, (can_hand_out its).k_upto) }
 
@@ -137,12 +136,15 @@ module _ {nodes count : ℕ} {limits a b profits : List ℕ} (w : LineColumns no
             unfolding row_of
             fair = rule_obeys w.held.line laid (λ j l. rw (load_row w.held.line laid j) (certificate.within.holds j l)) rule
 
-            pub planned : {earned number : ℕ} → earned ≡ sum_of count keeps profits → number ≡ number_of count keeps → LinePlanned w.book (Planned earned number) entries prices
+            pub planned :
+                {earned number : ℕ} → earned ≡ sum_of count keeps profits → number ≡ number_of count keeps
+                → LinePlanned w.book (record { earned = earned; number = number; entries = entries; prices = prices })
             unfolding clamp
             planned earns counts =
                 let accepted = certified_yes w.held.line (at entries) fair certificate in
                 record {
-                  says = ap₂ Planned (earns ∙ sum_is w.held.holds channels_small e) (counts ∙ number_is w.held.holds channels_small e);
+                  earned_is = earns ∙ sum_is w.held.holds channels_small e;
+                  number_is = counts ∙ number_is w.held.holds channels_small e;
                   best_plan = yes_best w.held.line (at entries) (at prices) accepted;
                   by_rule = rule;
                   priced = record { small = λ j l. omega (arith, p.is j (omega (arith, cells_are))); accepted = accepted };

@@ -4,24 +4,18 @@
 
 mod entries;
 
-ghost use Rattle.std.specs.Prelude.{◌≡◌, ◌-◌};
+ghost use Rattle.std.specs.Prelude.{◌≡◌, ◌-◌, IsOkAnd};
 ghost use Rattle.paper_rules.specs.Best.{best};
 ghost use Rattle.plan_row.specs.Placing.{OneToOne, LowPrices};
 ghost use Rattle.plan_line.specs.Promise.{LineColumns, CanPlanLine, LinePlanned};
 
-use plan_channels::Given;
+use plan_channels::NoneLeft;
 
-// What planning a line comes to: what it earns and how many are kept, or the request for which no channel was left (refusal 15).
-#[derive(Clone, Copy)]
-pub enum Solved {
-    Planned { earned: usize, number: usize },
-    NoneLeft(usize),
-}
-
-// The answer, with an entry for each request and a price for each span. (An enum holds no array.)
+// A best plan: what it earns and how many are kept, an entry for each request and a price for each span.
 #[derive(Clone, Copy)]
 pub struct LinePlan {
-    pub answer: Solved,
+    pub earned: usize,
+    pub number: usize,
     pub entries: [usize; 256],
     pub prices: [usize; 64],
 }
@@ -54,7 +48,7 @@ pub fn best_earnings(
     entries::sum_kept(count, &kept, profit).earned
 }
 
-// A best plan on this line.
+// A best plan on this line, or the request for which no channel was left (refusal 15, which is proved never to happen).
 pub fn plan_line(
     nodes: usize,
     channels: usize,
@@ -63,9 +57,9 @@ pub fn plan_line(
     a: &[usize; 256],
     b: &[usize; 256],
     profit: &[usize; 256],
-) -> LinePlan
+) -> Result<LinePlan, NoneLeft>
     requires { CanPlanLine nodes channels count limits.now a.now b.now profit.now }
-    ensures { (w : CanPlanLine nodes channels count limits.now a.now b.now profit.now) → LinePlanned w.columns.book result.answer result.entries result.prices }
+    ensures { (w : CanPlanLine nodes channels count limits.now a.now b.now profit.now) → IsOkAnd result (LinePlanned w.columns.book) }
 {
     let mut lo = [0usize; 256];
     let mut hi = [0usize; 256];
@@ -79,26 +73,16 @@ pub fn plan_line(
     plan_row::solve(
         cells, count, limits, a, b, profit, &mut lo, &mut hi, &mut kept, &mut dist,
     );
-    let given = plan_channels::hand_out(cells, count, channels, &lo, &hi, &kept, &mut channel);
-    if let Given::NoneLeft(r) = given {
-        return LinePlan {
-            answer: Solved::NoneLeft(r),
-            entries: entries,
-            prices: prices,
-        };
-    }
+    plan_channels::hand_out(cells, count, channels, &lo, &hi, &kept, &mut channel)?;
     entries::enter(count, a, b, &kept, &channel, &mut entries);
     // cell j is span j, so its price goes to place j
     base_lists::by_number(cells, &mut place);
     plan_row::price(cells, &dist, &place, &mut prices[..cells]);
     let totals = entries::sum_kept(count, &kept, profit);
-    let answer = Solved::Planned {
+    Ok(LinePlan {
         earned: totals.earned,
         number: totals.number,
-    };
-    LinePlan {
-        answer: answer,
-        entries: entries,
-        prices: prices,
-    }
+        entries,
+        prices,
+    })
 }

@@ -8,8 +8,7 @@ use Rattle.paper_rules.specs.Channels.{by_rule}
 use Rattle.paper_rules.specs.Cuts as Cuts
 use Rattle.paper_rules.specs.Cuts.{cut_line}
 use Rattle.law_ring.specs.Ring.{Ring}
-use Rattle.plan_line.specs.declared.Solved.{Solved}
-use Rattle.plan_line.specs.declared.Solved.TheVariants.{Planned}
+use Rattle.plan_ring.specs.declared.RingPlan.{RingPlan}
 
 -- the columns hold a ring's accepted book
 pub record RingColumns (nodes count : ℕ) (limits a b profits : List ℕ) : Type 0 where
@@ -24,11 +23,13 @@ pub record CanPlanRing (nodes channels count : ℕ) (limits a b profits : List �
   pub channels_is : channels ≡ columns.book.channels
 
 -- The cut is the lowest-numbered span whose line has the greatest best earnings; the plan is best on that line, with its channels, and obeys the ring's own
--- rules; earnings and number kept are sums over its entries, and none stands past the requests. Refusal 15 is never the answer.
-pub record RingPlanned (book : Book) (answer : Solved) (cut : ℕ) (entries : List ℕ) : Type 0 where
-  pub says : answer ≡ Planned (earnings book (at entries)) (number_kept book (at entries))
-  pub cut_is : cut ≡ Cuts.cut book
-  pub best_plan : Best (cut_line book (Cuts.cut book)) (at entries)
-  pub by_rule : by_rule (cut_line book (Cuts.cut book)) (at entries) ≡ true
-  pub fair : obeys book (at entries) ≡ true
-  pub entries_end : Vacant 0 (count book) 256 entries
+-- rules; earnings and number kept are sums over its entries, and none stands past the requests. (That there is a plan, and never refusal 15, `plan_ring`
+-- says beside it.)
+pub record RingPlanned (book : Book) (plan : RingPlan) : Type 0 where
+  pub earned_is : plan.earned ≡ earnings book (at plan.entries)
+  pub number_is : plan.number ≡ number_kept book (at plan.entries)
+  pub cut_is : plan.cut ≡ Cuts.cut book
+  pub best_plan : Best (cut_line book (Cuts.cut book)) (at plan.entries)
+  pub by_rule : by_rule (cut_line book (Cuts.cut book)) (at plan.entries) ≡ true
+  pub fair : obeys book (at plan.entries) ≡ true
+  pub entries_end : Vacant 0 (count book) 256 plan.entries

@@ -1,7 +1,7 @@
 -- A ring's columns, turned from the node after cut j, are those of the line which the cut leaves, so the line planner's promise speaks of that line.
 -- Assumes nothing.
 use Rattle.std.specs.Prelude.{List, true, ◌≡◌, ℕ, ◌+◌, ◌≤◌, ◌<◌}
-use Rattle.std.proofs.Math.Path.{refl, ap₂, subst}
+use Rattle.std.proofs.Math.Path.{refl, subst}
 use Rattle.std.proofs.Common.{◌∙◌, arith}
 use Rattle.base_sums.specs.Vacant.{Vacant}
 use Rattle.paper_book.specs.Columns.{at, Holds, few, a_node, b_node}
@@ -16,8 +16,7 @@ use Rattle.law_ring.specs.Choice.{cut_in}
 use Rattle.law_ring.specs.Fair as F
 use Rattle.law_ring.specs.TurnedColumns.{turned_holds}
 use Rattle.plan_turn.specs.Nodes.{Nodes, Turned}
-use Rattle.plan_line.specs.declared.Solved.{Solved}
-use Rattle.plan_line.specs.declared.Solved.TheVariants.{Planned}
+use Rattle.plan_line.specs.declared.LinePlan.{LinePlan}
 use Rattle.plan_line.specs.Promise.{LineColumns, CanPlanLine, LinePlanned}
 use Rattle.plan_ring.specs.Promise.{RingColumns, RingPlanned}
 
@@ -71,16 +70,18 @@ module _ {nodes count : ℕ} {limits a b profits : List ℕ} (w : RingColumns no
     cut_plannable its = record { columns = cut_columns; channels_is = its }
 
     pub cut_planned :
-        {channels : ℕ} {answer : Solved} {entries prices : List ℕ} → channels ≡ w.book.channels
-        → ((v : CanPlanLine nodes channels count limits' a' b' profits) → LinePlanned v.columns.book answer entries prices) → j ≡ Cuts.cut w.book → RingPlanned w.book answer j entries
+        {channels : ℕ} {plan : LinePlan} → channels ≡ w.book.channels
+        → ((v : CanPlanLine nodes channels count limits' a' b' profits) → LinePlanned v.columns.book plan) → j ≡ Cuts.cut w.book
+        → RingPlanned w.book (record { earned = plan.earned; number = plan.number; cut = j; entries = plan.entries })
     unfolding cut_columns cut_plannable
-    cut_planned {answer} {entries} its says chosen =
-        let p : LinePlanned (cut_line w.book j) answer entries _ = says (cut_plannable its) in
+    cut_planned {plan} its says chosen =
+        let p : LinePlanned (cut_line w.book j) plan = says (cut_plannable its) in
         record {
-          says = p.says ∙ ap₂ Planned (F.cut_earnings w.ring j (at entries)) (F.cut_number w.ring j (at entries));
+          earned_is = p.earned_is ∙ F.cut_earnings w.ring j (at plan.entries);
+          number_is = p.number_is ∙ F.cut_number w.ring j (at plan.entries);
           cut_is = chosen;
-          best_plan = subst (λ (k : ℕ). Best (cut_line w.book k) (at entries)) chosen p.best_plan;
-          by_rule = subst (λ (k : ℕ). by_rule (cut_line w.book k) (at entries) ≡ true) chosen p.by_rule;
-          fair = F.cut_plan_obeys w.ring j (omega (arith, w.nodes_is, ring_spans w.ring)) (at entries) p.best_plan.fair;
-          entries_end = subst (λ (n : ℕ). Vacant 0 n 256 entries) (cut_count w.ring j) p.entries_end;
+          best_plan = subst (λ (k : ℕ). Best (cut_line w.book k) (at plan.entries)) chosen p.best_plan;
+          by_rule = subst (λ (k : ℕ). by_rule (cut_line w.book k) (at plan.entries) ≡ true) chosen p.by_rule;
+          fair = F.cut_plan_obeys w.ring j (omega (arith, w.nodes_is, ring_spans w.ring)) (at plan.entries) p.best_plan.fair;
+          entries_end = subst (λ (n : ℕ). Vacant 0 n 256 plan.entries) (cut_count w.ring j) p.entries_end;
         }

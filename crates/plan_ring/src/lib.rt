@@ -4,15 +4,18 @@
 
 mod known;
 
-ghost use Rattle.std.specs.Prelude.{◌≡◌, ◌≤◌, ◌<◌, max};
+ghost use Rattle.std.specs.Prelude.{◌≡◌, ◌≤◌, ◌<◌, max, IsOkAnd};
 ghost use Rattle.paper_rules.specs.Cuts.{cut, cut_best};
 ghost use Rattle.plan_row.specs.Placing.{LowPrices};
 ghost use Rattle.plan_ring.specs.Promise.{RingColumns, CanPlanRing, RingPlanned};
 
-// The answer, the cut, and an entry for each request: those of the plan of the line which the cut leaves.
+use plan_channels::NoneLeft;
+
+// The plan of the line which the cut leaves: what it earns and how many are kept, the cut, and an entry for each request.
 #[derive(Clone, Copy)]
 pub struct RingPlan {
-    pub answer: plan_line::Solved,
+    pub earned: usize,
+    pub number: usize,
     pub cut: usize,
     pub entries: [usize; 256],
 }
@@ -118,7 +121,7 @@ fn best_cut(
     best
 }
 
-// The plan of the best cut's line.
+// The plan of the best cut's line, or the request for which no channel was left (refusal 15, which is proved never to happen).
 pub fn plan_ring(
     nodes: usize,
     channels: usize,
@@ -127,9 +130,9 @@ pub fn plan_ring(
     a: &[usize; 256],
     b: &[usize; 256],
     profit: &[usize; 256],
-) -> RingPlan
+) -> Result<RingPlan, NoneLeft>
     requires { CanPlanRing nodes channels count limits.now a.now b.now profit.now }
-    ensures { (w : CanPlanRing nodes channels count limits.now a.now b.now profit.now) → RingPlanned w.columns.book result.answer result.cut result.entries }
+    ensures { (w : CanPlanRing nodes channels count limits.now a.now b.now profit.now) → IsOkAnd result (RingPlanned w.columns.book) }
 {
     let j = best_cut(nodes, count, limits, a, b, profit);
     let mut limit = [0usize; 64];
@@ -138,12 +141,12 @@ pub fn plan_ring(
     plan_turn::turn_columns(
         nodes, j, count, limits, a, b, &mut limit, &mut from, &mut to,
     );
-    let plan = plan_line::plan_line(nodes, channels, count, &limit, &from, &to, profit);
-    let answer = plan.answer;
+    let plan = plan_line::plan_line(nodes, channels, count, &limit, &from, &to, profit)?;
     let entries = plan.entries;
-    RingPlan {
-        answer: answer,
+    Ok(RingPlan {
+        earned: plan.earned,
+        number: plan.number,
         cut: j,
-        entries: entries,
-    }
+        entries,
+    })
 }

@@ -11,8 +11,8 @@ use Rattle.plan_line.proofs.plan_line.Goals as goal
 pub solve-requires : goal.solve-requires
 solve-requires c = can_solve c.requires.columns
 
-pub hand_out-given-requires : goal.hand_out-given-requires
-hand_out-given-requires c = can_hand_out c.requires.columns c.solve.ensures c.requires.channels_is
+pub hand_out-requires : goal.hand_out-requires
+hand_out-requires c = can_hand_out c.requires.columns c.solve.ensures c.requires.channels_is
 
 pub by_number-requires : goal.by_number-requires
 by_number-requires c = omega (arith, (can_solve c.requires.columns).cells_upto)
@@ -39,7 +39,7 @@ returns c w =
     w.columns
     c.solve.ensures
     w.channels_is
-    c.hand_out-given.ensures
+    c.hand_out.ensures
     c.enter.ensures.entered
     (line_placed c.by_number.ensures (length-take-le _ _ (omega (arith, few))) c.price.ensures _)
     (c.enter.ensures.vacant (vacant_new 0 _ 256))
