@@ -14,6 +14,7 @@ mod places;
 mod totals;
 
 use read_record::{Network, Refusal};
+use work_columns::RequestColumns;
 
 // What a plan that can be checked comes to.
 #[derive(Clone, Copy, Debug, PartialEq, Eq)]
@@ -22,68 +23,68 @@ pub enum Verdict {
     No,
 }
 
-// Whether the plan obeys the rules and its earnings equal the ceiling of the prices.
-fn weigh(
-    spans: usize,
-    channels: usize,
-    limits: &[usize; 64],
+// What is checked: an accepted book with its requests as columns, and the lent lists of entries and of prices.
+#[derive(Clone, Copy)]
+struct Claim<'a> {
+    network: Network,
+    limits: &'a [usize; 64],
     count: usize,
-    a: &[usize; 256],
-    b: &[usize; 256],
-    profits: &[usize; 256],
-    entries: &[u8],
-    prices: &[u8],
-) -> bool
-    requires { CanCheck spans limits.now count a.now b.now profits.now entries.now prices.now }
-    ensures { (w : CanCheck spans limits.now count a.now b.now profits.now entries.now prices.now) → channels ≡ w.book.channels → result ≡ verdict w.book (entry_in entries.now) (price_in prices.now) }
-{
-    check_rules::lawful(spans, channels, limits, count, a, b, entries)
-        && totals::balanced(spans, limits, count, a, b, profits, entries, prices)
+    cols: &'a RequestColumns,
+    entries: &'a [u8],
+    prices: &'a [u8],
 }
 
-// Checks a plan for an accepted book: 14 for a ring, then 12, then 13, and only then yes or no.
-fn check_book(
-    network: Network,
-    limits: &[usize; 64],
-    count: usize,
-    a: &[usize; 256],
-    b: &[usize; 256],
-    profits: &[usize; 256],
-    entries: &[u8],
-    prices: &[u8],
-) -> Result<Verdict, Refusal>
-    requires { HeldBook network count limits.now a.now b.now profits.now }
-    ensures { (h : HeldBook network count limits.now a.now b.now profits.now) → checked_of result ≡ checking h.book entries.now prices.now }
-{
-    if network.shape == 2 {
-        return Err(Refusal {
-            number: 14,
-            place: 0,
-        });
+impl<'a> Claim<'a> {
+    // Whether the plan obeys the rules and its earnings equal the ceiling of the prices.
+    fn weigh(&self, spans: usize) -> bool
+        requires { CanCheck spans self.now.limits.now self.now.count self.now.cols.now.a self.now.cols.now.b self.now.cols.now.profit self.now.entries.now self.now.prices.now }
+        ensures { (w : CanCheck spans self.now.limits.now self.now.count self.now.cols.now.a self.now.cols.now.b self.now.cols.now.profit self.now.entries.now self.now.prices.now) → self.now.network.channels ≡ w.book.channels → result ≡ verdict w.book (entry_in self.now.entries.now) (price_in self.now.prices.now) }
+    {
+        let cols = self.cols;
+        check_rules::lawful(
+            spans,
+            self.network.channels,
+            self.limits,
+            self.count,
+            &cols.a,
+            &cols.b,
+            self.entries,
+        ) && self.balanced(spans)
     }
-    let spans = network.nodes - 1;
-    if read_record::shapes::short(
-        network.shape,
-        spans,
-        count,
-        entries.len() / 2,
-        prices.len() / 4,
-    ) {
-        return Err(Refusal {
-            number: 12,
-            place: 0,
-        });
+
+    // 14 for a ring, then 12, then 13, and only then yes or no.
+    fn check(&self) -> Result<Verdict, Refusal>
+        requires { HeldBook self.now.network self.now.count self.now.limits.now self.now.cols.now.a self.now.cols.now.b self.now.cols.now.profit }
+        ensures { (h : HeldBook self.now.network self.now.count self.now.limits.now self.now.cols.now.a self.now.cols.now.b self.now.cols.now.profit) → checked_of result ≡ checking h.book self.now.entries.now self.now.prices.now }
+    {
+        let network = self.network;
+        if network.shape == 2 {
+            return Err(Refusal {
+                number: 14,
+                place: 0,
+            });
+        }
+        let spans = network.nodes - 1;
+        if read_record::shapes::short(
+            network.shape,
+            spans,
+            self.count,
+            self.entries.len() / 2,
+            self.prices.len() / 4,
+        ) {
+            return Err(Refusal {
+                number: 12,
+                place: 0,
+            });
+        }
+        if let Some(place) = places::dear(self.prices, spans) {
+            return Err(Refusal { number: 13, place });
+        }
+        if self.weigh(spans) {
+            return Ok(Verdict::Yes);
+        }
+        Ok(Verdict::No)
     }
-    if let Some(place) = places::dear(prices, spans) {
-        return Err(Refusal { number: 13, place });
-    }
-    let channels = network.channels;
-    if weigh(
-        spans, channels, limits, count, a, b, profits, entries, prices,
-    ) {
-        return Ok(Verdict::Yes);
-    }
-    Ok(Verdict::No)
 }
 
 // Checks a plan: the entries, two bytes each, against the prices, four bytes each, for the book in the file. The book's own refusals come first.
@@ -96,14 +97,13 @@ pub fn check_plan(file: &[u8], entries: &[u8], prices: &[u8]) -> Result<Verdict,
         read_book::Answer::Refused(refusal) => return Err(refusal),
     };
     let cols = work_columns::columns(&taken.requests, taken.count);
-    check_book(
+    let claim = Claim {
         network,
-        &taken.limits,
-        taken.count,
-        &cols.a,
-        &cols.b,
-        &cols.profit,
+        limits: &taken.limits,
+        count: taken.count,
+        cols: &cols,
         entries,
         prices,
-    )
+    };
+    claim.check()
 }

@@ -7,7 +7,7 @@ ghost use Rattle.paper_rules.specs.Prices.{ceiling};
 ghost use Rattle.check_plan.specs.Totals.{CanEarn, earning};
 ghost use Rattle.check_plan.specs.CanCheck.{CanCheck};
 
-use crate::places;
+use crate::{Claim, places};
 
 // What the plan earns.
 fn earned(count: usize, profits: &[usize; 256], entries: &[u8]) -> usize
@@ -22,21 +22,23 @@ fn earned(count: usize, profits: &[usize; 256], entries: &[u8]) -> usize
     sum
 }
 
-// Whether the plan's earnings equal the ceiling of the prices.
-pub fn balanced(
-    spans: usize,
-    limits: &[usize; 64],
-    count: usize,
-    a: &[usize; 256],
-    b: &[usize; 256],
-    profits: &[usize; 256],
-    entries: &[u8],
-    prices: &[u8],
-) -> bool
-    requires { CanCheck spans limits.now count a.now b.now profits.now entries.now prices.now }
-    ensures { (w : CanCheck spans limits.now count a.now b.now profits.now entries.now prices.now) → result ≡ eqb (earnings w.book (entry_in entries.now)) (ceiling w.book (price_in prices.now)) }
-{
-    let list = places::price_list(spans, prices);
-    let top = work_ceiling::ceiling_of(spans, count, limits, a, b, profits, &list);
-    earned(count, profits, entries) == top
+impl<'a> Claim<'a> {
+    // Whether the plan's earnings equal the ceiling of the prices.
+    pub fn balanced(&self, spans: usize) -> bool
+        requires { CanCheck spans self.now.limits.now self.now.count self.now.cols.now.a self.now.cols.now.b self.now.cols.now.profit self.now.entries.now self.now.prices.now }
+        ensures { (w : CanCheck spans self.now.limits.now self.now.count self.now.cols.now.a self.now.cols.now.b self.now.cols.now.profit self.now.entries.now self.now.prices.now) → result ≡ eqb (earnings w.book (entry_in self.now.entries.now)) (ceiling w.book (price_in self.now.prices.now)) }
+    {
+        let cols = self.cols;
+        let list = places::price_list(spans, self.prices);
+        let top = work_ceiling::ceiling_of(
+            spans,
+            self.count,
+            self.limits,
+            &cols.a,
+            &cols.b,
+            &cols.profit,
+            &list,
+        );
+        earned(self.count, &cols.profit, self.entries) == top
+    }
 }

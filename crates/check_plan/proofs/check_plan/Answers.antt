@@ -11,11 +11,11 @@ pub returns-in-Refused : goal.returns-in-Refused
 unfolding checked_of
 returns-in-Refused c = book_refused _ _ _ (refused_read c.read_book-taken.ensures c.in-Refused.is)
 
-pub check_book-requires : goal.check_book-requires
-check_book-requires c = lent_held (accepted c.read_book-taken.ensures c.in-Accepted.is).0 c.columns-cols.ensures
+pub check-requires : goal.check-requires
+check-requires c = lent_held (accepted c.read_book-taken.ensures c.in-Accepted.is).0 c.columns-cols.ensures
 
 pub returns : goal.returns
 unfolding book_from lent_held
 returns c =
     let taken = accepted c.read_book-taken.ensures c.in-Accepted.is in
-    book_accepted _ _ _ taken.1 (c.check_book.ensures (lent_held taken.0 c.columns-cols.ensures))
+    book_accepted _ _ _ taken.1 (c.check.ensures (lent_held taken.0 c.columns-cols.ensures))

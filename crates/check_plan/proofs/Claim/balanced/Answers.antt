@@ -1,8 +1,8 @@
--- `check_plan::totals::balanced` meets its contract: its two numbers are the book's earnings and the ceiling of its prices. Assumes nothing.
+-- `check_plan::Claim::balanced` meets its contract: its two numbers are the book's earnings and the ceiling of its prices. Assumes nothing.
 use native.Mathlib.Omega.{arith}
 use Rattle.law_line.specs.HeldLine.{few_spans}
 use Rattle.check_plan.specs.Balance.{can_earn, priced_line, same_balance}
-use Rattle.check_plan.proofs.totals.balanced.Goals as goal
+use Rattle.check_plan.proofs.Claim.balanced.Goals as goal
 
 pub price_list-list-requires : goal.price_list-list-requires
 price_list-list-requires c = omega (arith, few_spans c.requires.held, c.requires.prices_enough)

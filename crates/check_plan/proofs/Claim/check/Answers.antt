@@ -1,11 +1,11 @@
--- `check_plan::check_book` meets its contract: each way out is one of the checker's, in their order. Assumes nothing.
+-- `check_plan::Claim::check` meets its contract: each way out is one of the checker's, in their order. Assumes nothing.
 use mathlib.Core.Path.{refl, sym, ap, ◌∙◌}
 use native.Mathlib.Omega.{arith}
 use Rattle.paper_book.specs.Reading.{done}
 use Rattle.check_plan.specs.Checked.{checked_of}
 use Rattle.check_plan.specs.WaysOut.{ring_refused, short_refused}
 use Rattle.check_plan.specs.OnTable.{line, short_is, prices_reach, refused_there, can_check, weighed}
-use Rattle.check_plan.proofs.check_book.Goals as goal
+use Rattle.check_plan.proofs.Claim.check.Goals as goal
 
 pub returns-then-network-eq2 : goal.returns-then-network-eq2
 unfolding checked_of
@@ -19,7 +19,7 @@ returns-then-short c h =
 
 pub dear-requires : goal.dear-requires
 dear-requires c =
-    omega (arith, prices_reach c.requires c.if-network-eq2.false c.args.entries.now c.args.prices.now c.short.ensures c.if-short.false)
+    omega (arith, prices_reach c.requires c.if-network-eq2.false c.args.self.now.entries.now c.args.self.now.prices.now c.short.ensures c.if-short.false)
 
 pub returns-in-Some : goal.returns-in-Some
 unfolding checked_of
