@@ -17,7 +17,8 @@ impl Chain {
     // The last link above e, from link j on.
     fn last_above(&self, j: usize, e: usize) -> usize
         requires { CanFollow self.now.next j e }
-        ensures { (w : CanFollow self.now.next j e) → Above (Flagged w.side w.t w.kept) w.ends self.now.next (w.ends j) e result }
+        ensures inside { result < 256 }
+        ensures last { (w : CanFollow self.now.next j e) → Above (Flagged w.side w.t w.kept) w.ends self.now.next (w.ends j) e result }
     {
         let mut k = j;
         while e + 1 < self.next[k] {

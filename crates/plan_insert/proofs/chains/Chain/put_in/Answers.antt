@@ -2,7 +2,7 @@
 use Prim.Native.Nat.{suc, ◌<◌}
 use native.Mathlib.Omega.{arith}
 use Rattle.plan_insert.specs.State.{at}
-use Rattle.plan_insert.specs.Moves.{follows, found_in, put_far, put_in_first, put_in_after}
+use Rattle.plan_insert.specs.Moves.{follows, put_far, put_in_first, put_in_after}
 use Rattle.plan_insert.proofs.chains.Chain.put_in.Goals as goal
 
 pub returns-then-first-e : goal.returns-then-first-e
@@ -13,31 +13,7 @@ last_above-j-requires c =
     let far : let a = c.args in suc a.e < at a.self.now.head a.v = let p = c.requires in put_far p.0 p.1 c.if-first-e.false in
     follows c.requires.0 far
 
-pub offset_bounds-self-j : goal.offset_bounds-self-j
-offset_bounds-self-j c =
-    let far : let a = c.args in suc a.e < at a.self.now.head a.v = let p = c.requires in put_far p.0 p.1 c.if-first-e.false in
-    let link_in : c.last_above-j.result < 256 = found_in c.requires.0 far c.last_above-j.ensures in
-    omega (arith, link_in)
-
-pub bounds-self-j : goal.bounds-self-j
-bounds-self-j c =
-    let far : let a = c.args in suc a.e < at a.self.now.head a.v = let p = c.requires in put_far p.0 p.1 c.if-first-e.false in
-    let link_in : c.last_above-j.result < 256 = found_in c.requires.0 far c.last_above-j.ensures in
-    link_in
-
-pub offset_bounds-self-j-2 : goal.offset_bounds-self-j-2
-offset_bounds-self-j-2 c =
-    let far : let a = c.args in suc a.e < at a.self.now.head a.v = let p = c.requires in put_far p.0 p.1 c.if-first-e.false in
-    let link_in : c.last_above-j.result < 256 = found_in c.requires.0 far c.last_above-j.ensures in
-    omega (arith, link_in)
-
-pub bounds-self-j-2 : goal.bounds-self-j-2
-bounds-self-j-2 c =
-    let far : let a = c.args in suc a.e < at a.self.now.head a.v = let p = c.requires in put_far p.0 p.1 c.if-first-e.false in
-    let link_in : c.last_above-j.result < 256 = found_in c.requires.0 far c.last_above-j.ensures in
-    link_in
-
 pub returns : goal.returns
 returns c w =
     let far : let a = c.args in suc a.e < at a.self.now.head a.v = let p = c.requires in put_far p.0 p.1 c.if-first-e.false in
-    put_in_after w.0 w.1 (omega arith) far c.last_above-j.ensures
+    put_in_after w.0 w.1 (omega arith) far c.last_above-j.ensures.last
