@@ -78,14 +78,14 @@ pub struct Sides {
 }
 
 impl Sides {
-    ghost use Rattle.plan_insert.specs.Lent.{stays, Chained};
+    ghost use Rattle.plan_insert.specs.Lent.{stays, Linked};
 
     // Keeps or drops candidate t, a new one: it goes into the chain of its last node where it is kept, of its first where it is dropped.
     pub fn enter(&mut self, row: &Row, kept: &mut [bool; 256], t: usize, side: Side)
         requires ends { (row.now.cells ≤ 127) × (t < 256) × (at row.now.lo.now t ≤ row.now.cells) × (at row.now.hi.now t ≤ row.now.cells) }
-        requires before { Chained row.now t kept.old self.old }
+        requires before { Linked row.now t kept.old self.old }
         ensures kept_after { kept.new ≡ set kept.old t (stays side) }
-        ensures chained { Chained row.now (suc t) kept.new self.new }
+        ensures chained { Linked row.now (suc t) kept.new self.new }
     {
         match side {
             Side::Dropped => {

@@ -1,7 +1,8 @@
 // What an insertion and its search are given: the row with its candidates, and the flow after the first t of them.
 ghost use Rattle.std.specs.Prelude.{◌≡◌, ◌≤◌};
 ghost use Rattle.base_signed.specs.Parts.{up, dn};
-ghost use Rattle.plan_insert.specs.State.{at, Ready, cost_along, links, Chains, Flagged, ends_of, Chained};
+ghost use Rattle.plan_insert.specs.State.{Ready, cost_along, ends_of};
+ghost use Rattle.plan_insert.specs.Lent.{stays, OfSide, Linked};
 
 use crate::chains::{Chain, Sides};
 
@@ -24,15 +25,13 @@ pub struct Ground<'a> {
     pub dist: &'a [i64; 128],
     pub chains: &'a Sides,
     ghost ready: { Ready row.cells t row.lo.now row.hi.now row.cost.now kept.now room.now dist.now },
-    ghost chained: { Chains row.cells t (at row.lo.now) (at row.hi.now) kept.now (links chains.now.dropped.head chains.now.dropped.next chains.now.held.head chains.now.held.next) },
+    ghost linked: { Linked row t kept.now chains.now },
 }
 
 impl Ground<'_> {
-    ghost use Rattle.plan_insert.specs.Lent.{stays};
-
     // The chains of one side.
     pub fn chain(&self, side: Side) -> &Chain
-        ensures { Chained self.now.row.cells (Flagged (stays side) self.now.t self.now.kept.now) (at (ends_of (stays side) self.now.row.lo.now self.now.row.hi.now)) result.now.head result.now.next }
+        ensures { OfSide self.now.row self.now.t self.now.kept.now side result.now }
     {
         match side {
             Side::Dropped => &self.chains.dropped,
@@ -59,8 +58,6 @@ pub enum Side {
 }
 
 impl Side {
-    ghost use Rattle.plan_insert.specs.Lent.{stays};
-
     // The cost of a candidate's arc: back along a kept one it counts the other way.
     pub fn cost_along(self, cost: i64) -> i64
         requires { (up cost ≤ 1000000) × (dn cost ≤ 1000000) }

@@ -34,7 +34,7 @@ pub struct Planner {
 }
 
 impl Planner {
-    ghost use Rattle.plan_insert.specs.Lent.{Chained, Insertable, Stands};
+    ghost use Rattle.plan_insert.specs.Lent.{Linked, Insertable, Stands};
 
     // Inserts candidate t.
     pub fn insert(
@@ -47,7 +47,7 @@ impl Planner {
     )
         requires { Insertable row.now t kept.old room.old dist.old self.old.chains }
         ensures standing { (w : Insertable row.now t kept.old room.old dist.old self.old.chains) → Stands w.limit w.count row.now (suc t) kept.new room.new dist.new }
-        ensures chains { Chained row.now (suc t) kept.new self.new.chains }
+        ensures chains { Linked row.now (suc t) kept.new self.new.chains }
     {
         let a = row.lo[t];
         let b = row.hi[t];
