@@ -8,7 +8,7 @@ use Rattle.base_sums.specs.At.{flag, NumbersUpto}
 use Rattle.base_sums.specs.Sums.{when, Σ-ext}
 use Rattle.base_sums.specs.Filled.{Filled}
 use Rattle.base_sums.specs.Vacant.{Vacant, vacant_new, vacant_part}
-use Rattle.paper_book.specs.Book.{spans}
+use Rattle.paper_book.specs.Book as Books
 use Rattle.paper_book.specs.Columns.{at}
 use Rattle.paper_rules.specs.Plans.{kept, channel, obeys}
 use Rattle.paper_rules.specs.Channels.{by_rule}
@@ -40,14 +40,14 @@ use Rattle.plan_line.specs.Written.{keeps_are, goes_its_way, channels_are, sum_i
 pub placed_end : {f : ℕ → ℕ} {n : ℕ} {place before part : List ℕ} → Placed f place n before part → length before ≡ n → n ≤ 64 → Vacant 0 n 64 (part ++ drop n (replicate 64 0))
 placed_end {n} {part} p e l = vacant_part (vacant_new 0 n 64) part (p.as_long ∙ e) l
 
-module _ {nodes count : ℕ} {limits a b profits : List ℕ} (w : LineColumns nodes count limits a b profits) where
-  cells_are : nodes - 1 ≡ spans w.book
+module _ {spans count : ℕ} {limits a b profits : List ℕ} (w : LineColumns spans count limits a b profits) where
+  cells_are : spans ≡ Books.spans w.book
   cells_are = w.held.spans_is
 
-  pub some_node : 1 ≤ nodes
-  some_node = omega (arith, cells_are, line_spans w.held.line, w.held.line.sound.nodes_from)
+  pub some_span : 1 ≤ spans
+  some_span = omega (arith, cells_are, line_spans w.held.line, w.held.line.sound.nodes_from)
 
-  pub can_solve : CanSolve (nodes - 1) count limits a b profits
+  pub can_solve : CanSolve spans count limits a b profits
   can_solve =
       let h = w.held in
       record {
@@ -60,23 +60,23 @@ module _ {nodes count : ℕ} {limits a b profits : List ℕ} (w : LineColumns no
       }
 
   module _
-      {lo hi : List ℕ} {keeps : List Bool} {dist : List ℤ} (s : Solves (nodes - 1) count limits a b profits lo hi keeps dist)
+      {lo hi : List ℕ} {keeps : List Bool} {dist : List ℤ} (s : Solves spans count limits a b profits lo hi keeps dist)
     where
-      over : SameIntervals (row_on (nodes - 1) count lo hi) (row_of w.book)
+      over : SameIntervals (row_on spans count lo hi) (row_of w.book)
       over = same_intervals w.held.holds s.candidates cells_are
 
-      same : Same (row_in (at s.free) count (nodes - 1) lo hi s.cost) (row_of w.book)
+      same : Same (row_in (at s.free) count spans lo hi s.cost) (row_of w.book)
       same = same_row w.held.holds s.candidates cells_are s.free s.free_is
 
       -- the kept set is certified by the prices, whatever plan and price list they stand in
-      stands : {x : ℕ → Bool} {y : Prices} → SameKept count (flag keeps) x → ((j : ℕ) → j < nodes - 1 → prices_of dist j ≡ y j) → Certified w.book x y
+      stands : {x : ℕ → Bool} {y : Prices} → SameKept count (flag keeps) x → ((j : ℕ) → j < spans → prices_of dist j ≡ y j) → Certified w.book x y
       stands = certified w.held.line same s.standing.balanced
 
       pub sum_best : sum_of count keeps profits ≡ best w.book
       unfolding worth row_of
       sum_best = Σ-ext count _ _ (λ i l. ap (when (flag keeps i)) (w.held.holds.profit_is i l)) ∙ rw w.held.holds.counted (earns_best w.held.line (stands {y = prices_of dist} (λ i l. refl) (λ j l. refl)))
 
-      pub falling : Falling (nodes - 1) dist
+      pub falling : Falling spans dist
       falling = record {
         cells_upto = can_solve.cells_upto;
         at_cell = λ j l. record {
@@ -87,7 +87,7 @@ module _ {nodes count : ℕ} {limits a b profits : List ℕ} (w : LineColumns no
         };
       }
 
-      pub can_hand_out : {k : ℕ} → k ≡ w.book.channels → CanHandOut (nodes - 1) count k lo hi keeps
+      pub can_hand_out : {k : ℕ} → k ≡ w.book.channels → CanHandOut spans count k lo hi keeps
       unfolding row_of
       can_hand_out its =
           let real = real_intervals can_solve s.candidates in
@@ -97,7 +97,7 @@ module _ {nodes count : ℕ} {limits a b profits : List ℕ} (w : LineColumns no
             k_upto = omega (arith, its, w.held.line.sound.channels_upto);
             proper = record { some_cell = real.some_cell; in_row = real.in_row };
             fits = λ j l.
-                let h : j < spans w.book = omega (arith, cells_are) in
+                let h : j < Books.spans w.book = omega (arith, cells_are) in
                 omega (
                   arith,
                   its,
@@ -107,15 +107,15 @@ module _ {nodes count : ℕ} {limits a b profits : List ℕ} (w : LineColumns no
                 );
           }
 
-      module _ {k : ℕ} (its : k ≡ w.book.channels) {given : Result ⊤ NoneLeft} {channels : List ℕ} (h : HandedOut (nodes - 1) count k lo hi keeps given channels) where
+      module _ {k : ℕ} (its : k ≡ w.book.channels) {given : Result ⊤ NoneLeft} {channels : List ℕ} (h : HandedOut spans count k lo hi keeps given channels) where
         pub channels_small : NumbersUpto 96 count channels
         channels_small = record { few = can_solve.profits_in.few; upto = λ i l. omega (arith, h.upto i l, (can_hand_out its).k_upto) }
 
         -- ---- entries and prices as they are written
 
         module _
-            {entries prices : List ℕ} (e : Entered count a b keeps channels entries) (p : Filled (prices_of dist) (nodes - 1) prices)
-            (no-entry : Vacant 0 count 256 entries) (no-price : Vacant 0 (nodes - 1) 64 prices)
+            {entries prices : List ℕ} (e : Entered count a b keeps channels entries) (p : Filled (prices_of dist) spans prices)
+            (no-entry : Vacant 0 count 256 entries) (no-price : Vacant 0 spans 64 prices)
           where
             same_set : SameKept count (flag keeps) (kept (at entries))
             same_set = keeps_are w.held.holds channels_small e

@@ -4,11 +4,12 @@
 
 mod entries;
 
-ghost use Rattle.std.specs.Prelude.{◌≡◌, ◌-◌, IsOkAnd};
+ghost use Rattle.std.specs.Prelude.{◌≡◌, IsOkAnd, length};
 ghost use Rattle.paper_rules.specs.Best.{best};
 ghost use Rattle.plan_row.specs.Placing.{OneToOne, LowPrices};
-ghost use Rattle.plan_line.specs.Promise.{LineColumns, CanPlanLine, LinePlanned};
+ghost use Rattle.plan_line.specs.Promise.{LineLent, PlannableLine, LinePlanned};
 
+use base_columns::Columns;
 use plan_channels::NoneLeft;
 
 // A best plan: what it earns and how many are kept, an entry for each request and a price for each span.
@@ -21,64 +22,43 @@ pub struct LinePlan {
 }
 
 // The most that any plan on this line earns. The price of each cell goes to its place in `prices`.
-pub fn best_earnings(
-    nodes: usize,
-    count: usize,
-    limits: &[usize; 64],
-    a: &[usize; 256],
-    b: &[usize; 256],
-    profit: &[usize; 256],
-    place: &[usize; 128],
-    prices: &mut [usize; 64],
-) -> usize
-    requires line_columns { LineColumns nodes count limits.now a.now b.now profit.now }
-    requires one_to_one { OneToOne (nodes - 1) place.now prices.old }
-    ensures value { (w : LineColumns nodes count limits.now a.now b.now profit.now) → result ≡ best w.book }
+pub fn best_earnings(line: &Columns, place: &[usize; 128], prices: &mut [usize; 64]) -> usize
+    requires line_columns { LineLent line.now }
+    requires one_to_one { OneToOne (length line.now.limits.now) place.now prices.old }
+    ensures value { (w : LineLent line.now) → result ≡ best w.book }
     ensures low_prices { LowPrices prices.old → LowPrices prices.new }
 {
-    let mut lo = [0usize; 256];
-    let mut hi = [0usize; 256];
-    let mut kept = [false; 256];
-    let mut dist = [0i64; 128];
-    let spans = nodes - 1;
-    plan_row::solve(
-        spans, count, limits, a, b, profit, &mut lo, &mut hi, &mut kept, &mut dist,
-    );
-    plan_row::price(spans, &dist, place, prices);
-    entries::sum_kept(count, &kept, profit).earned
+    let set = plan_row::solve(line);
+    plan_row::price(line.limits.len(), &set.dist, place, prices);
+    entries::sum_kept(&set.kept, line.profit).earned
 }
 
 // A best plan on this line, or the request for which no channel was left (refusal 15, which is proved never to happen).
-pub fn plan_line(
-    nodes: usize,
-    channels: usize,
-    count: usize,
-    limits: &[usize; 64],
-    a: &[usize; 256],
-    b: &[usize; 256],
-    profit: &[usize; 256],
-) -> Result<LinePlan, NoneLeft>
-    requires { CanPlanLine nodes channels count limits.now a.now b.now profit.now }
-    ensures { (w : CanPlanLine nodes channels count limits.now a.now b.now profit.now) → IsOkAnd result (LinePlanned w.columns.book) }
+pub fn plan_line(line: &Columns, channels: usize) -> Result<LinePlan, NoneLeft>
+    requires { PlannableLine channels line.now }
+    ensures { (w : PlannableLine channels line.now) → IsOkAnd result (LinePlanned w.columns.book) }
 {
-    let mut lo = [0usize; 256];
-    let mut hi = [0usize; 256];
-    let mut kept = [false; 256];
-    let mut dist = [0i64; 128];
+    let cells = line.limits.len();
+    let count = line.a.len();
     let mut channel = [0usize; 256];
     let mut entries = [0usize; 256];
     let mut place = [0usize; 128];
     let mut prices = [0usize; 64];
-    let cells = nodes - 1;
-    plan_row::solve(
-        cells, count, limits, a, b, profit, &mut lo, &mut hi, &mut kept, &mut dist,
-    );
-    plan_channels::hand_out(cells, count, channels, &lo, &hi, &kept, &mut channel)?;
-    entries::enter(count, a, b, &kept, &channel, &mut entries);
+    let set = plan_row::solve(line);
+    plan_channels::hand_out(
+        cells,
+        count,
+        channels,
+        &set.lo,
+        &set.hi,
+        &set.kept,
+        &mut channel,
+    )?;
+    entries::enter(line, &set.kept, &channel, &mut entries);
     // cell j is span j, so its price goes to place j
     base_lists::by_number(cells, &mut place);
-    plan_row::price(cells, &dist, &place, &mut prices[..cells]);
-    let totals = entries::sum_kept(count, &kept, profit);
+    plan_row::price(cells, &set.dist, &place, &mut prices[..cells]);
+    let totals = entries::sum_kept(&set.kept, line.profit);
     Ok(LinePlan {
         earned: totals.earned,
         number: totals.number,

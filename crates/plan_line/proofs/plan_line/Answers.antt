@@ -5,14 +5,14 @@ use native.Mathlib.Omega.{arith}
 use lib.Seq.{length-take-le}
 use Rattle.base_sums.specs.Vacant.{vacant_new}
 use Rattle.plan_row.specs.Placing.{line_places, line_placed}
-use Rattle.plan_line.specs.Promised.{some_node, can_solve, can_hand_out, falling, placed_end, planned}
+use Rattle.plan_line.specs.Promised.{can_solve, can_hand_out, falling, placed_end, planned}
 use Rattle.plan_line.proofs.plan_line.Goals as goal
 
-pub solve-requires : goal.solve-requires
-solve-requires c = can_solve c.requires.columns
+pub solve-set-requires : goal.solve-set-requires
+solve-set-requires c = can_solve c.requires.columns
 
 pub hand_out-requires : goal.hand_out-requires
-hand_out-requires c = can_hand_out c.requires.columns c.solve.ensures c.requires.channels_is
+hand_out-requires c = can_hand_out c.requires.columns c.solve-set.ensures c.requires.channels_is
 
 pub by_number-requires : goal.by_number-requires
 by_number-requires c = omega (arith, (can_solve c.requires.columns).cells_upto)
@@ -25,27 +25,24 @@ slice_bounds-price-end c = sym (length-take-le _ _ (omega (arith, (can_solve c.r
 
 pub price-requires : goal.price-requires
 price-requires c = record {
-  falling = falling c.requires.columns c.solve.ensures;
+  falling = falling c.requires.columns c.solve-set.ensures;
   places = line_places c.by_number.ensures (length-take-le _ _ (omega (arith, (can_solve c.requires.columns).cells_upto)));
 }
 
 pub sum_kept-totals-requires : goal.sum_kept-totals-requires
-sum_kept-totals-requires c = (can_solve c.requires.columns).profits_in
+sum_kept-totals-requires c = rw c.args.line.now.profit_even (can_solve c.requires.columns).profits_in
 
 pub returns : goal.returns
 returns c w =
     let few = (can_solve w.columns).cells_upto in
     planned
     w.columns
-    c.solve.ensures
+    c.solve-set.ensures
     w.channels_is
     c.hand_out.ensures
     c.enter.ensures.entered
     (line_placed c.by_number.ensures (length-take-le _ _ (omega (arith, few))) c.price.ensures _)
     (c.enter.ensures.vacant (vacant_new 0 _ 256))
     (placed_end c.price.ensures (length-take-le _ _ (omega (arith, few))) (omega (arith, few)))
-    c.sum_kept-totals.ensures.earned
-    c.sum_kept-totals.ensures.number
-
-pub overflow_sub-cells : goal.overflow_sub-cells
-overflow_sub-cells c = some_node c.requires.columns
+    (rw c.args.line.now.profit_even at c.sum_kept-totals.ensures.earned)
+    (rw c.args.line.now.profit_even at c.sum_kept-totals.ensures.number)
