@@ -5,8 +5,8 @@ ghost use Rattle.plan_insert.specs.Joining.{CanPutIn, CanTakeOut, Moved, CanFoll
 
 use crate::ground::{Row, Side};
 
-// Some candidates by one of their ends: head[v] is 1 past the latest one with its end at node v, next[j] 1 past the latest before j with the same end.
-// The links are numbers in arrays, since nothing may allocate, and 0 is none, since an array of options would be twice as big.
+// Some candidates by one of their ends: head[v] is 1 past the latest one with its end at node v, next[j] 1 past the latest before j with
+// the same end. The links are numbers in arrays, since nothing may allocate; 0 is none, since an array of options would be twice as big.
 #[derive(Drop)]
 pub struct Chain {
     pub head: [usize; 128],
@@ -27,7 +27,7 @@ impl Chain {
         k
     }
 
-    // Puts candidate e into the chain of node v. (This and `take_out` change one link: a link that is lent, as `&mut self.head[v]`, has no proof yet.)
+    // Puts candidate e into the chain of node v. (This and `take_out` change the same link: lent, as `&mut self.head[v]`, it has no proof yet.)
     pub fn put_in(&mut self, v: usize, e: usize)
         requires { CanPutIn self.old.head self.old.next v e }
         ensures { (w : CanPutIn self.old.head self.old.next v e) → Moved w.0 self.new.head self.new.next }
@@ -70,7 +70,7 @@ impl Chain {
     }
 }
 
-// Both chains: the dropped candidates by their first node, where arcs along them start, and the kept ones by their last, where arcs back start.
+// Both chains: the dropped candidates by their first node, where arcs along them start, and the kept ones by their last, where arcs back do.
 #[derive(Drop)]
 pub struct Sides {
     pub dropped: Chain,
