@@ -1,8 +1,8 @@
 -- The seam between the reader and what works on its book: where the reader accepts a file, its reading is a sound book, whose requests are lent as
 -- one list; the limits, and the columns made of that list, hold the book. Assumes nothing.
-use Rattle.std.specs.Prelude.{◌≡◌, refl, Result, Ok, List, ℕ, ◌≤◌, length}
+use Rattle.std.specs.Prelude.{◌≡◌, refl, Result, Ok, List, ℕ, ◌≤◌, length, take}
 use Rattle.std.proofs.Math.Path.{ap}
-use Rattle.std.proofs.Common.{◌∙◌, arith}
+use Rattle.std.proofs.Common.{◌∙◌, arith, get_or-take, length-take-le}
 use Rattle.base_sums.specs.Vacant.{Vacant}
 use Rattle.paper_book.specs.Book as Books
 use Rattle.paper_book.specs.Book.{Book, end_a, end_b, profit}
@@ -16,6 +16,7 @@ use Rattle.read_record.specs.declared.Request.{Request}
 use Rattle.read_book.specs.declared.Taken.{Taken}
 use Rattle.read_book.specs.Says.{book_from, Reads}
 use Rattle.read_book.specs.Accepted.{accepted_read, made_count, made_limit, made_request}
+use Rattle.base_columns.specs.declared.Columns.{Columns}
 use Rattle.work_columns.specs.declared.RequestColumns.{RequestColumns}
 use Rattle.work_columns.specs.Columned.{Columned, CanColumn}
 
@@ -69,6 +70,40 @@ lent_held {net} {limits} {requests} {count} lent made = record {
   a_end = made.a_end;
   b_end = made.b_end;
 }
+
+-- an accepted book, with the lent columns that hold it
+pub record HeldColumns (book : Book) (net : Network) (c : Columns) : Type 0 where
+  pub sound : Sound book
+  pub shape_is : book.shape ≡ code_of net.shape
+  pub nodes_is : book.nodes ≡ net.nodes
+  pub channels_is : book.channels ≡ net.channels
+  pub spans_is : length c.limits.now ≡ Books.spans book
+  pub holds : Holds book (length c.a.now) c.limits.now c.a.now c.b.now c.profit.now
+
+-- the first limits, one a span, and the columns of the lent requests hold that book
+module _ {net : Network} {limits : List ℕ} {requests : List Request} {count : ℕ} {cols : RequestColumns} {c : Columns} (lent : LentBook net limits requests count) (made : Columned requests count cols) where
+  pub held_columns :
+      c.limits.now ≡ take (Books.spans_of (code_of net.shape) net.nodes) limits → length c.limits.now ≡ Books.spans_of (code_of net.shape) net.nodes
+      → (c.a.now ≡ take count cols.a) × (c.b.now ≡ take count cols.b) → c.profit.now ≡ take count cols.profit
+      → HeldColumns (book_from net limits count requests) net c
+  unfolding book_from end_a end_b profit Books.spans
+  held_columns l_is l_long ends p_is =
+      let h = made_holds net limits count requests lent.can.there made in
+      let long : length c.a.now ≡ count = rw ends.0 (length-take-le count cols.a (omega (arith, lent.can.few, made.a_end.long))) in
+      record {
+        sound = lent.sound;
+        shape_is = refl;
+        nodes_is = refl;
+        channels_is = refl;
+        spans_is = l_long;
+        holds = record {
+          counted = long ∙ h.counted;
+          limit_is = λ s k. rw l_is (get_or-take _ limits s 0 k ∙ h.limit_is s k);
+          a_is = λ i k. rw ends.0 (get_or-take count cols.a i 0 (omega (arith, long)) ∙ h.a_is i (omega (arith, long)));
+          b_is = λ i k. rw ends.1 (get_or-take count cols.b i 0 (omega (arith, long)) ∙ h.b_is i (omega (arith, long)));
+          profit_is = λ i k. rw p_is (get_or-take count cols.profit i 0 (omega (arith, long)) ∙ h.profit_is i (omega (arith, long)));
+        };
+      }
 
 pub accepted :
     {file : List ℕ} {read : Result Taken Refusal} {taken : Taken} → Reads file read → read ≡ Ok taken

@@ -1,8 +1,10 @@
 // The accepted requests as columns of numbers: the seam between the reader and the planner and checker. The list of requests is lent.
 #![tactic(auto)]
 
+ghost use Rattle.std.specs.Prelude.{◌≡◌, ◌≤◌, take};
 ghost use Rattle.work_columns.specs.Columned.{Columned, CanColumn};
 
+use base_columns::Columns;
 use read_record::Request;
 
 #[derive(Clone, Copy)]
@@ -27,4 +29,21 @@ pub fn columns(requests: &[Request], count: usize) -> RequestColumns
         profit[i] = q.profit;
     }
     RequestColumns { a, b, profit }
+}
+
+impl RequestColumns {
+    // The first `count` requests' columns, lent, with a limit for each span.
+    pub fn lend<'a>(&'a self, limits: &'a [usize], count: usize) -> Columns<'a>
+        requires { count ≤ 256 }
+        ensures limits { result.limits.now ≡ limits.now }
+        ensures ends { (result.a.now ≡ take count self.now.a) × (result.b.now ≡ take count self.now.b) }
+        ensures profit { result.profit.now ≡ take count self.now.profit }
+    {
+        Columns {
+            limits,
+            a: &self.a[..count],
+            b: &self.b[..count],
+            profit: &self.profit[..count],
+        }
+    }
 }
