@@ -1,6 +1,6 @@
 -- The seam between the reader and what works on its book: where the reader accepts a file, its reading is a sound book, whose requests are lent as
 -- one list; the limits, and the columns made of that list, hold the book. Assumes nothing.
-use Rattle.std.specs.Prelude.{◌≡◌, refl, Result, Ok, List, ℕ, ◌≤◌, length, take}
+use Rattle.std.specs.Prelude.{◌≡◌, refl, Result, Ok, List, ℕ, ◌≤◌, ◌<◌, length, take}
 use Rattle.std.proofs.Math.Path.{ap}
 use Rattle.std.proofs.Common.{◌∙◌, arith, get_or-take, length-take-le}
 use Rattle.base_sums.specs.Vacant.{Vacant}
@@ -88,7 +88,6 @@ module _ {net : Network} {limits : List ℕ} {requests : List Request} {count : 
       → HeldColumns (book_from net limits count requests) net c
   unfolding book_from end_a end_b profit Books.spans
   held_columns l_is l_long ends p_is =
-      let h = made_holds net limits count requests lent.can.there made in
       let long : length c.a.now ≡ count = rw ends.0 (length-take-le count cols.a (omega (arith, lent.can.few, made.a_end.long))) in
       record {
         sound = lent.sound;
@@ -97,11 +96,11 @@ module _ {net : Network} {limits : List ℕ} {requests : List Request} {count : 
         channels_is = refl;
         spans_is = l_long;
         holds = record {
-          counted = long ∙ h.counted;
-          limit_is = λ s k. rw l_is (get_or-take _ limits s 0 k ∙ h.limit_is s k);
-          a_is = λ i k. rw ends.0 (get_or-take count cols.a i 0 (omega (arith, long)) ∙ h.a_is i (omega (arith, long)));
-          b_is = λ i k. rw ends.1 (get_or-take count cols.b i 0 (omega (arith, long)) ∙ h.b_is i (omega (arith, long)));
-          profit_is = λ i k. rw p_is (get_or-take count cols.profit i 0 (omega (arith, long)) ∙ h.profit_is i (omega (arith, long)));
+          counted = long ∙ made_count net limits count requests lent.can.there;
+          limit_is = λ s k. rw l_is (get_or-take _ limits s 0 k ∙ made_limit net limits count requests s k);
+          a_is = λ i k. let h : i < count = omega (arith, long) in rw ends.0 (get_or-take count cols.a i 0 h ∙ (made.a_is.is i h ∙ ap (λ (q : Books.Request). q.a) (made_request net limits count requests i h)));
+          b_is = λ i k. let h : i < count = omega (arith, long) in rw ends.1 (get_or-take count cols.b i 0 h ∙ (made.b_is.is i h ∙ ap (λ (q : Books.Request). q.b) (made_request net limits count requests i h)));
+          profit_is = λ i k. let h : i < count = omega (arith, long) in rw p_is (get_or-take count cols.profit i 0 h ∙ (made.profit_is.is i h ∙ ap (λ (q : Books.Request). q.profit) (made_request net limits count requests i h)));
         };
       }
 
