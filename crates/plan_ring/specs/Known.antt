@@ -10,10 +10,12 @@ use Rattle.paper_rules.specs.Prices.{ceiling}
 use Rattle.paper_rules.specs.Cuts.{steps, span_at, cut_best}
 use Rattle.law_ring.specs.Turn.{span_below, place_of_span}
 use Rattle.plan_turn.specs.Nodes.{Turned}
+use Rattle.plan_turn.specs.Lent.{Columns, CutLine}
 use Rattle.work_ceiling.specs.PricedLine.{PricedLine}
+use Rattle.work_ceiling.specs.Lent.{PricedColumns}
 use Rattle.work_ceiling.specs.Above.{best_upto_ceiling}
 use Rattle.plan_row.specs.Placing.{OneToOne, LowPrices}
-use Rattle.plan_ring.specs.Promise.{RingColumns}
+use Rattle.plan_ring.specs.Promise.{RingColumns, RingLent}
 use Rattle.plan_ring.specs.Turned.{cut_columns, cut_best_lem}
 
 -- no prices yet
@@ -54,3 +56,13 @@ module _ {nodes count : ℕ} {limits a b profits : List ℕ} (w : RingColumns no
     cut_bounded says =
         let v = cut_columns w j cut turned in
         omega (arith, cut_best_lem w j cut turned, says cut_priced, best_upto_ceiling v.held.line (at prices))
+
+-- the same of lent columns
+module _ {ring : Columns} (w : RingLent ring) (j : ℕ) (cut : j < length ring.limits.now) {line : Columns} (l : CutLine ring j line)
+    {prices known : List ℕ} (priced : Filled (λ t. at known (span_at (length ring.limits.now) j t)) (length ring.limits.now - 1) prices) (low : LowPrices known)
+  where
+    pub lent_priced : PricedColumns line prices
+    lent_priced = rw (l.spans_is, l.count_is, l.profit_is) (cut_priced w j cut l.turned priced low)
+
+    pub lent_bounded : {r : ℕ} → ((v : PricedColumns line prices) → r ≡ ceiling v.book (at prices)) → cut_best w.book j ≤ r
+    lent_bounded says = cut_bounded w j cut l.turned priced low (rw (l.spans_is, l.count_is, l.profit_is) at says)

@@ -1,6 +1,7 @@
 -- What planning a ring promises, in the words of 01. Assumes nothing.
-use Rattle.std.specs.Prelude.{true, List, ◌≡◌, ℕ}
+use Rattle.std.specs.Prelude.{true, List, ◌≡◌, ℕ, length}
 use Rattle.base_sums.specs.Vacant.{Vacant}
+use Rattle.base_columns.specs.declared.Columns.{Columns}
 use Rattle.paper_book.specs.Book.{Book, count}
 use Rattle.paper_book.specs.Columns.{at, Holds}
 use Rattle.paper_rules.specs.Plans.{obeys, number_kept, earnings, Best}
@@ -21,6 +22,13 @@ pub record RingColumns (nodes count : ℕ) (limits a b profits : List ℕ) : Typ
 pub record CanPlanRing (nodes channels count : ℕ) (limits a b profits : List ℕ) : Type 0 where
   pub columns : RingColumns nodes count limits a b profits
   pub channels_is : channels ≡ columns.book.channels
+
+-- lent columns that hold one
+abbrev pub RingLent : Columns → Type 0
+RingLent c = RingColumns (length c.limits.now) (length c.a.now) c.limits.now c.a.now c.b.now c.profit.now
+
+abbrev pub PlannableRing : ℕ → Columns → Type 0
+PlannableRing channels c = CanPlanRing (length c.limits.now) channels (length c.a.now) c.limits.now c.a.now c.b.now c.profit.now
 
 -- The cut is the lowest-numbered span whose line has the greatest best earnings; the plan is best on that line, with its channels, and obeys the ring's own
 -- rules; earnings and number kept are sums over its entries, and none stands past the requests. (That there is a plan, and never refusal 15, `plan_ring`

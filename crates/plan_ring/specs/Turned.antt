@@ -1,6 +1,6 @@
 -- A ring's columns, turned from the node after cut j, are those of the line which the cut leaves, so the line planner's promise speaks of that line.
 -- Assumes nothing.
-use Rattle.std.specs.Prelude.{List, true, ◌≡◌, ℕ, ◌+◌, ◌≤◌, ◌<◌}
+use Rattle.std.specs.Prelude.{List, true, ◌≡◌, ℕ, ◌+◌, ◌-◌, ◌≤◌, ◌<◌, length}
 use Rattle.std.proofs.Math.Path.{refl, subst}
 use Rattle.std.proofs.Common.{◌∙◌, arith}
 use Rattle.base_sums.specs.Vacant.{Vacant}
@@ -17,8 +17,9 @@ use Rattle.law_ring.specs.Fair as F
 use Rattle.law_ring.specs.TurnedColumns.{turned_holds}
 use Rattle.plan_turn.specs.Nodes.{Nodes, Turned}
 use Rattle.plan_line.specs.declared.LinePlan.{LinePlan}
-use Rattle.plan_line.specs.Promise.{LineColumns, CanPlanLine, LinePlanned}
-use Rattle.plan_ring.specs.Promise.{RingColumns, RingPlanned}
+use Rattle.plan_turn.specs.Lent.{Columns, CutLine}
+use Rattle.plan_line.specs.Promise.{LineLent, PlannableLine, LineColumns, CanPlanLine, LinePlanned}
+use Rattle.plan_ring.specs.Promise.{RingColumns, RingLent, RingPlanned}
 
 module _ {nodes count : ℕ} {limits a b profits : List ℕ} (w : RingColumns nodes count limits a b profits) where
   pub few_nodes : nodes ≤ 64
@@ -47,7 +48,7 @@ module _ {nodes count : ℕ} {limits a b profits : List ℕ} (w : RingColumns no
         (λ i l. subst (λ (n : ℕ). at a' i ≡ steps n (j + 1) (at a i)) w.nodes_is (turned.a_turned.is i l))
         (λ i l. subst (λ (n : ℕ). at b' i ≡ steps n (j + 1) (at b i)) w.nodes_is (turned.b_turned.is i l))
 
-    pub cut_columns : LineColumns nodes count limits' a' b' profits
+    pub cut_columns : LineColumns (nodes - 1) count limits' a' b' profits
     unfolding cut_line
     cut_columns =
         record {
@@ -60,18 +61,18 @@ module _ {nodes count : ℕ} {limits a b profits : List ℕ} (w : RingColumns no
     cut_best_lem = refl
 
     -- what the line planner says of the turned columns, it says of the cut's line
-    pub cut_earned : {r : ℕ} → ((v : LineColumns nodes count limits' a' b' profits) → r ≡ best v.book) → r ≡ cut_best w.book j
+    pub cut_earned : {r : ℕ} → ((v : LineColumns (nodes - 1) count limits' a' b' profits) → r ≡ best v.book) → r ≡ cut_best w.book j
     unfolding cut_columns cut_best
     cut_earned says = says cut_columns
 
     -- with the ring's channels
-    pub cut_plannable : {channels : ℕ} → channels ≡ w.book.channels → CanPlanLine nodes channels count limits' a' b' profits
+    pub cut_plannable : {channels : ℕ} → channels ≡ w.book.channels → CanPlanLine (nodes - 1) channels count limits' a' b' profits
     unfolding cut_columns cut_line
     cut_plannable its = record { columns = cut_columns; channels_is = its }
 
     pub cut_planned :
         {channels : ℕ} {plan : LinePlan} → channels ≡ w.book.channels
-        → ((v : CanPlanLine nodes channels count limits' a' b' profits) → LinePlanned v.columns.book plan) → j ≡ Cuts.cut w.book
+        → ((v : CanPlanLine (nodes - 1) channels count limits' a' b' profits) → LinePlanned v.columns.book plan) → j ≡ Cuts.cut w.book
         → RingPlanned w.book (record { earned = plan.earned; number = plan.number; cut = j; entries = plan.entries })
     unfolding cut_columns cut_plannable
     cut_planned {plan} its says chosen =
@@ -85,3 +86,15 @@ module _ {nodes count : ℕ} {limits a b profits : List ℕ} (w : RingColumns no
           fair = F.cut_plan_obeys w.ring j (omega (arith, w.nodes_is, ring_spans w.ring)) (at plan.entries) p.best_plan.fair;
           entries_end = subst (λ (n : ℕ). Vacant 0 n 256 plan.entries) (cut_count w.ring j) p.entries_end;
         }
+
+-- ---- the same of lent columns
+
+module _ {ring : Columns} (w : RingLent ring) (j : ℕ) (cut : j < length ring.limits.now) {line : Columns} (l : CutLine ring j line) where
+  pub cut_lent : LineLent line
+  cut_lent = rw (l.spans_is, l.count_is, l.profit_is) (cut_columns w j cut l.turned)
+
+  pub lent_earned : {r : ℕ} → ((v : LineLent line) → r ≡ best v.book) → r ≡ cut_best w.book j
+  lent_earned says = cut_earned w j cut l.turned (rw (l.spans_is, l.count_is, l.profit_is) at says)
+
+  pub lent_plannable : {channels : ℕ} → channels ≡ w.book.channels → PlannableLine channels line
+  lent_plannable its = rw (l.spans_is, l.count_is, l.profit_is) (cut_plannable w j cut l.turned its)

@@ -1,10 +1,12 @@
 // Prices known from the cuts planned so far, one for each span of the ring. Any prices bound what a cut's line can earn; those of another cut do it well.
-ghost use Rattle.std.specs.Prelude.{◌≡◌, ◌-◌, ◌≤◌, ◌<◌};
+ghost use Rattle.std.specs.Prelude.{◌≡◌, ◌-◌, ◌≤◌, ◌<◌, length};
 ghost use Rattle.base_sums.specs.Filled.{Filled};
 ghost use Rattle.paper_rules.specs.Best.{best};
 ghost use Rattle.paper_rules.specs.Cuts.{span_at};
-ghost use Rattle.plan_line.specs.Promise.{LineColumns};
+ghost use Rattle.plan_line.specs.Promise.{LineLent};
 ghost use Rattle.plan_row.specs.Placing.{LowPrices};
+
+use base_columns::Columns;
 
 // The span of the ring for each place of the line which cut j leaves.
 fn places(nodes: usize, j: usize, place: &mut [usize; 128])
@@ -27,24 +29,16 @@ fn bridge(nodes: usize, j: usize, known: &mut [usize; 64])
 }
 
 // What the line which cut j leaves can earn, by its own columns. Its prices become the known ones.
-pub fn best_earnings(
-    j: usize,
-    nodes: usize,
-    count: usize,
-    limits: &[usize; 64],
-    a: &[usize; 256],
-    b: &[usize; 256],
-    profit: &[usize; 256],
-    known: &mut [usize; 64],
-) -> usize
-    requires line_columns { LineColumns nodes count limits.now a.now b.now profit.now }
-    requires j_lt_nodes { (j < nodes) × (3 ≤ nodes) × (nodes ≤ 64) × LowPrices known.old }
-    ensures value { (w : LineColumns nodes count limits.now a.now b.now profit.now) → result ≡ best w.book }
+pub fn best_earnings(j: usize, line: &Columns, known: &mut [usize; 64]) -> usize
+    requires line_columns { LineLent line.now }
+    requires j_upto_spans { (j ≤ length line.now.limits.now) × (2 ≤ length line.now.limits.now) × (length line.now.limits.now ≤ 63) × LowPrices known.old }
+    ensures value { (w : LineLent line.now) → result ≡ best w.book }
     ensures low_prices { LowPrices known.new }
 {
+    let nodes = line.limits.len() + 1;
     let mut place = [0usize; 128];
     places(nodes, j, &mut place);
-    let earned = plan_line::best_earnings(nodes, count, limits, a, b, profit, &place, known);
+    let earned = plan_line::best_earnings(line, &place, known);
     bridge(nodes, j, known);
     earned
 }

@@ -1,7 +1,6 @@
 -- What turning a ring's columns along the line which a cut leaves asks and promises. Assumes nothing.
-use Rattle.std.specs.Prelude.{List, ℕ, ◌+◌, ◌-◌, ◌≤◌, ◌<◌, length, take}
+use Rattle.std.specs.Prelude.{List, ℕ, ◌+◌, ◌-◌, ◌≤◌, ◌<◌, take}
 use Rattle.std.proofs.Common.{◌∙◌, get_or-take}
-use Rattle.base_columns.specs.declared.Columns.{Columns}
 use Rattle.base_sums.specs.At.{NumbersBelow}
 use Rattle.base_sums.specs.Filled.{Filled}
 use Rattle.paper_book.specs.Columns.{at}
@@ -12,10 +11,6 @@ pub record Nodes (n j count : ℕ) (ends : List ℕ) : Type 0 where
   pub cut_in : j < n
   pub n_upto : n ≤ 64
   pub are_nodes : NumbersBelow n count ends
-
--- both columns of ends can be turned
-abbrev pub CanTurn : Columns → ℕ → Type 0
-CanTurn ring j = Nodes (length ring.limits.now) j (length ring.a.now) ring.a.now × Nodes (length ring.limits.now) j (length ring.b.now) ring.b.now
 
 -- the ring's columns along the line which cut j leaves
 pub record Turned (n j count : ℕ) (limits a b limit from to : List ℕ) : Type 0 where

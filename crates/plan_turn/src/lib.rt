@@ -5,7 +5,8 @@ ghost use Rattle.std.specs.Prelude.{◌≡◌, ℕ, ◌+◌, ◌-◌, ◌≤◌,
 ghost use Rattle.paper_rules.specs.Cuts as C;
 ghost use Rattle.base_sums.specs.Filled.{Filled};
 ghost use Rattle.paper_book.specs.Columns.{at};
-ghost use Rattle.plan_turn.specs.Nodes.{Nodes, CanTurn, Turned};
+ghost use Rattle.plan_turn.specs.Nodes.{Nodes};
+ghost use Rattle.plan_turn.specs.Lent.{Columns, CanTurn, CutTurned, CutLine};
 
 use base_columns::Columns;
 
@@ -42,12 +43,11 @@ fn turn_ends(n: usize, j: usize, ends: &[usize], turned: &mut [usize; 256])
     }
 }
 
-// The limits of a ring's spans, or their prices, in the order of the line which cut j leaves.
-pub fn turn_limits(j: usize, limits: &[usize], turned: &mut [usize; 64])
-    requires { (j < length limits.now) × (length limits.now ≤ 64) }
-    ensures { Filled (λ t. at limits.now (C.span_at (length limits.now) j t)) (length limits.now - 1) turned.new }
+// The limits of a ring's n spans, or their prices, in the order of the line which cut j leaves.
+pub fn turn_limits(n: usize, j: usize, limits: &[usize], turned: &mut [usize; 64])
+    requires { (j < n) × (n ≤ 64) × (n ≤ length limits.now) }
+    ensures { Filled (λ t. at limits.now (C.span_at n j t)) (n - 1) turned.new }
 {
-    let n = limits.len();
     for t in 0..n - 1 {
         turned[t] = limits[span_at(n, j, t)];
     }
@@ -64,33 +64,30 @@ pub struct CutColumns {
 // The limits and both ends of each request, along the line which cut j leaves.
 pub fn turn_columns(ring: &Columns, j: usize) -> CutColumns
     requires { CanTurn ring.now j }
-    ensures { Turned (length ring.now.limits.now) j (length ring.now.a.now) ring.now.limits.now ring.now.a.now ring.now.b.now result.limits result.a result.b }
+    ensures { CutTurned ring.now j result }
 {
+    let n = ring.limits.len();
     let mut limits = [0; 64];
     let mut a = [0; 256];
     let mut b = [0; 256];
-    turn_limits(j, ring.limits, &mut limits);
-    turn_ends(ring.limits.len(), j, ring.a, &mut a);
-    turn_ends(ring.limits.len(), j, ring.b, &mut b);
+    turn_limits(n, j, ring.limits, &mut limits);
+    turn_ends(n, j, ring.a, &mut a);
+    turn_ends(n, j, ring.b, &mut b);
     CutColumns { limits, a, b }
 }
 
 impl CutColumns {
-    // The columns of that line; the profits are the ring's.
-    pub fn along<'a>(&'a self, ring: &Columns<'a>) -> Columns<'a>
-        requires { (1 ≤ length ring.now.limits.now) × (length ring.now.limits.now ≤ 64) × (length ring.now.a.now ≤ 256) }
-        ensures spans { length result.limits.now + 1 ≡ length ring.now.limits.now }
-        ensures count { length result.a.now ≡ length ring.now.a.now }
-        ensures profit { result.profit ≡ ring.now.profit }
-        ensures turned { (j : ℕ) → Turned (length ring.now.limits.now) j (length ring.now.a.now) ring.now.limits.now ring.now.a.now ring.now.b.now self.now.limits self.now.a self.now.b → Turned (length ring.now.limits.now) j (length ring.now.a.now) ring.now.limits.now ring.now.a.now ring.now.b.now result.limits.now result.a.now result.b.now }
+    // The columns of that line, of so many spans; the profits are the ring's.
+    pub fn along<'a>(&'a self, spans: usize, profit: &'a [usize]) -> Columns<'a>
+        requires { (spans ≤ 64) × (length profit.now ≤ 256) }
+        ensures { (ring : Columns) (j : ℕ) → length ring.limits.now - 1 ≡ spans → ring.profit.now ≡ profit.now → CutTurned ring j self.now → CutLine ring j result }
     {
-        let spans = ring.limits.len() - 1;
-        let count = ring.a.len();
+        let count = profit.len();
         Columns {
             limits: &self.limits[..spans],
             a: &self.a[..count],
             b: &self.b[..count],
-            profit: ring.profit,
+            profit,
         }
     }
 }

@@ -5,8 +5,8 @@ use Rattle.plan_ring.specs.Choosing.{best_better, best_stays, best_chosen}
 use Rattle.plan_ring.proofs.best_cut.Goals as goal
 use Rattle.plan_ring.proofs.best_cut.Goals.{then-top-earned, else-top-earned}
 
-pub cut_earnings-top-requires-clause-j_lt_nodes : goal.cut_earnings-top-requires-clause-j_lt_nodes
-cut_earnings-top-requires-clause-j_lt_nodes c = (omega (arith, some_nodes c.requires), low_none)
+pub cut_earnings-top-requires-clause-j_in_ring : goal.cut_earnings-top-requires-clause-j_in_ring
+cut_earnings-top-requires-clause-j_in_ring c = (omega (arith, some_nodes c.requires), low_none)
 
 pub loop-j-preserved : goal.loop-j-preserved
 loop-j-preserved c =

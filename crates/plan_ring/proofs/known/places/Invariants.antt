@@ -1,9 +1,7 @@
 -- `plan_ring::known::places` meets its contract: each turn puts the span of one place. Assumes nothing.
-use mathlib.Core.Path.{◌≡◌}
-use lib.ListN.{length}
 use Rattle.base_sums.specs.Filled.{Filled}
 use Rattle.paper_rules.specs.Cuts.{span_at}
 use Rattle.plan_ring.proofs.known.places.Given as goal
 
 abbrev pub invariant-loop-t : goal.invariant-loop-t
-invariant-loop-t l = (length l.place ≡ 128) × Filled (span_at l.nodes l.j) l.t l.place
+invariant-loop-t l = Filled (span_at l.nodes l.j) l.t l.place
