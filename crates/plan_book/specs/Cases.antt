@@ -1,95 +1,64 @@
 -- What a user of the planner concludes from its answer: a refusal is the one that the operations name, and a plan is a plan of the book in the file, whose
 -- requests stand in the columns handed back. Assumes nothing.
-use Rattle.std.specs.Prelude.{false, cond, List, ◌⊎◌, ◌≡◌, refl, ℕ}
+use Rattle.std.specs.Prelude.{false, cond, List, ◌⊎◌, ◌≡◌, refl, ℕ, Result, Ok, Err, IsOkAnd}
 use Rattle.std.proofs.Common.{inl, inr, ⊎_elim, sym, ap, ap₂, ◌∙◌, arith}
 use Rattle.base_sums.specs.Each.{decided}
 use Rattle.base_sums.specs.Table.{table, table_at}
 use Rattle.paper_book.specs.Book.{Book, count, limit, profit}
 use Rattle.paper_book.specs.Columns.{at, Holds}
 use Rattle.paper_book.specs.Reading.{Outcome, done, refused, and_then, reading, refused_not_done}
-use Rattle.paper_rules.specs.Operations as O
 use Rattle.paper_rules.specs.Operations.{places_short, plannable_in}
 use Rattle.read_record.specs.declared.Refusal.{Refusal}
-use Rattle.plan_book.specs.declared.Answer.{Answer}
-use Rattle.plan_book.specs.declared.Answer.TheVariants.{Planned, Refused}
+use Rattle.read_record.specs.declared.Row.{Row}
+use Rattle.read_record.specs.declared.shape.Shape.{Shape}
+use Rattle.read_record.specs.Numbers.{number_of, same_row}
 use Rattle.plan_book.specs.declared.BookPlan.{BookPlan}
-use Rattle.plan_book.specs.Promise.{planned_of, Refusing, PlanOf, BookPlanned}
+use Rattle.plan_book.specs.Promise.{planned_of, PlanOf, BookPlanned}
 
--- an answer that means a plan is that plan
-plan_is : (answer : Answer) {earned number cut : ℕ} → planned_of answer ≡ done (earned, number, cut) → answer ≡ Planned earned number cut
-unfolding planned_of
-plan_is (Planned earned₀ number₀ cut₀) {earned} {number} {cut} says =
-    let same : ◌≡◌ {A = ℕ × ℕ × ℕ} (earned₀, number₀, cut₀) (earned, number, cut) = cc in
-    rw (ap (λ (t : ℕ × ℕ × ℕ). t.0) same, ap (λ (t : ℕ × ℕ × ℕ). t.1) same, ap (λ (t : ℕ × ℕ × ℕ). t.2) same)
-plan_is (Refused refusal) says = absurd (refused_not_done says)
-
-pub is_plan : {book : Book} {r : BookPlan} (plan : PlanOf book r) → r.answer ≡ Planned plan.earned plan.number plan.cut
-is_plan {r} plan = plan_is r.answer plan.says
-
--- and a plan at the numbers answered
-pub plan_answered :
-    {book : Book} {r : BookPlan} {earned number cut : ℕ} → PlanOf book r → r.answer ≡ Planned earned number cut → O.Planned book (at r.entries) earned number cut
-plan_answered {earned} {number} {cut} plan says =
-    let the-answer : Planned plan.earned plan.number plan.cut ≡ Planned earned number cut = sym (is_plan plan) ∙ says in
-    let e : plan.earned ≡ earned = cc in
-    let n : plan.number ≡ number = cc in
-    let c : plan.cut ≡ cut = cc in
-    rw (e, n, c) at plan.planned
-
--- an answer that means a refusal is that refusal
-refusal_is : (answer : Answer) {n p : ℕ} → planned_of answer ≡ refused n p → answer ≡ Refused (record { number = n; place = p })
-unfolding planned_of
-refusal_is (Planned earned number cut) says = absurd (refused_not_done (sym says))
-refusal_is (Refused refusal) {n} {p} says =
-    let number : refusal.number ≡ n = cc in
-    let place : refusal.place ≡ p = cc in
-    ap₂ (λ n p. Refused (record { number = n; place = p })) number place
-
--- two values whose parts are the same are the same value
+-- two plans whose parts are the same are the same
 pub parts_same :
-    {r other : BookPlan} → r.answer ≡ other.answer → r.shape ≡ other.shape → r.spans ≡ other.spans → r.count ≡ other.count → r.a ≡ other.a → r.b ≡ other.b
-    → r.entries ≡ other.entries → r.prices ≡ other.prices → r ≡ other
-parts_same {r} {other} answer shape spans count a b entries prices =
-    let all : ◌≡◌ {A = BookPlan} (record { answer = r.answer; shape = r.shape; spans = r.spans; count = r.count; a = r.a; b = r.b; entries = r.entries; prices = r.prices }) other =
-    rw (answer, shape, spans, count, a, b, entries, prices) in
+    {r other : BookPlan} → r.earned ≡ other.earned → r.number ≡ other.number → r.cut ≡ other.cut → r.shape ≡ other.shape → r.spans ≡ other.spans → r.count ≡ other.count
+    → r.a ≡ other.a → r.b ≡ other.b → r.entries ≡ other.entries → r.prices ≡ other.prices → r ≡ other
+parts_same {r} {other} earned number cut shape spans count a b entries prices =
+    let all : ◌≡◌ {A = BookPlan} (record { earned = r.earned; number = r.number; cut = r.cut; shape = r.shape; spans = r.spans; count = r.count; a = r.a; b = r.b; entries = r.entries; prices = r.prices }) other =
+    rw (earned, number, cut, shape, spans, count, a, b, entries, prices) refl in
     all
 
--- so are two refusals by the same number and place, with the zeros beside them
-pub refused_once : {n p : ℕ} {r other : BookPlan} → Refusing n p r → Refusing n p other → r ≡ other
-refused_once {r} {other} x y =
-    parts_same
-    (refusal_is r.answer x.says ∙ sym (refusal_is other.answer y.says))
-    (x.no_shape ∙ sym y.no_shape)
-    (x.no_spans ∙ sym y.no_spans)
-    (x.no_requests ∙ sym y.no_requests)
-    (x.no_first_ends ∙ sym y.no_first_ends)
-    (x.no_second_ends ∙ sym y.no_second_ends)
-    (x.no_entries ∙ sym y.no_entries)
-    (x.no_prices ∙ sym y.no_prices)
+-- so are two refusals by the same number and place
+pub refused_once : {n p : ℕ} {r other : Result BookPlan Refusal} → planned_of r ≡ refused n p → planned_of other ≡ refused n p → r ≡ other
+unfolding planned_of
+refused_once {r = Ok plan} x y = absurd (refused_not_done (sym x))
+refused_once {r = Err refusal} {other = Ok plan} x y = absurd (refused_not_done (sym y))
+refused_once {r = Err refusal} {other = Err told} x y =
+    let said = x ∙ sym y in
+    let number : number_of refusal.row ≡ number_of told.row = cc in
+    let place : refusal.place ≡ told.place = cc in
+    ap₂ (λ (row : Row) (place : ℕ). Err (record { row = row; place = place })) (same_row _ _ number) place
 
 pub is_refused :
-    {file : List ℕ} {entryRoom priceRoom : ℕ} {r : BookPlan} {refusal : Refusal} → BookPlanned file entryRoom priceRoom r → r.answer ≡ Refused refusal
-    → plannable_in file entryRoom priceRoom ≡ refused refusal.number refusal.place
+    {file : List ℕ} {entryRoom priceRoom : ℕ} {r : Result BookPlan Refusal} {refusal : Refusal} → BookPlanned file entryRoom priceRoom r → r ≡ Err refusal
+    → plannable_in file entryRoom priceRoom ≡ refused (number_of refusal.row) refusal.place
 unfolding planned_of
 is_refused {file} {entryRoom} {priceRoom} {refusal} planned says = go (plannable_in file entryRoom priceRoom) refl
   where
-    go : (o : Outcome Book) → plannable_in file entryRoom priceRoom ≡ o → plannable_in file entryRoom priceRoom ≡ refused refusal.number refusal.place
-    go (done book) is = absurd (refused_not_done (sym (ap planned_of says) ∙ (planned.plan book is).says))
+    go : (o : Outcome Book) → plannable_in file entryRoom priceRoom ≡ o → plannable_in file entryRoom priceRoom ≡ refused (number_of refusal.row) refusal.place
+    go (done book) is = absurd (rw says at planned.plan book is)
     go (refused n p) is =
-        let told : ◌≡◌ {A = Outcome (ℕ × ℕ × ℕ)} (refused refusal.number refusal.place) (refused n p) = sym (ap planned_of says) ∙ (planned.refusal n p is).says in
-        let number : n ≡ refusal.number = cc in
+        let both = sym (planned.refusal n p is) ∙ ap planned_of says in
+        let number : n ≡ number_of refusal.row = cc in
         let place : p ≡ refusal.place = cc in
         rw (number, place) at is
 
+-- a plan is that of the book in the file
 pub is_planned :
-    {file : List ℕ} {entryRoom priceRoom earned number cut : ℕ} {r : BookPlan} → BookPlanned file entryRoom priceRoom r → r.answer ≡ Planned earned number cut
-    → (book : Book) × (plannable_in file entryRoom priceRoom ≡ done book)
+    {file : List ℕ} {entryRoom priceRoom : ℕ} {r : Result BookPlan Refusal} {made : BookPlan} → BookPlanned file entryRoom priceRoom r → r ≡ Ok made
+    → (book : Book) × (plannable_in file entryRoom priceRoom ≡ done book) × PlanOf book made
 unfolding planned_of
-is_planned {file} {entryRoom} {priceRoom} planned says = go (plannable_in file entryRoom priceRoom) refl
+is_planned {file} {entryRoom} {priceRoom} {made} planned says = go (plannable_in file entryRoom priceRoom) refl
   where
-    go : (o : Outcome Book) → plannable_in file entryRoom priceRoom ≡ o → (book : Book) × (plannable_in file entryRoom priceRoom ≡ done book)
-    go (done book) is = (book, is)
-    go (refused n p) is = absurd (refused_not_done (sym (planned.refusal n p is).says ∙ ap planned_of says))
+    go : (o : Outcome Book) → plannable_in file entryRoom priceRoom ≡ o → (book : Book) × (plannable_in file entryRoom priceRoom ≡ done book) × PlanOf book made
+    go (done book) is = (book, is, rw says at planned.plan book is)
+    go (refused n p) is = absurd (refused_not_done (sym (planned.refusal n p is) ∙ ap planned_of says))
 
 -- ---- what comes before a plan: a book that can be planned is the one that was read, and the lists are not short for it
 

@@ -1,27 +1,22 @@
--- `plan_book::find` meets its contract: what the planner of its shape promises is a plan of the book that the columns hold. Assumes nothing.
-use mathlib.Core.Path.{refl}
+-- `plan_book::find` meets its contract: what the planner of its shape promises is a plan of the book that the columns hold, and refusal 15 is never its
+-- answer. Assumes nothing.
 use Rattle.plan_book.specs.Held.{held_line, held_ring, on_line, on_ring}
 use Rattle.plan_book.proofs.find.Goals as goal
 
 pub plan_line-requires : goal.plan_line-requires
-plan_line-requires c = held_line c.if-net-eq1.true c.requires
+plan_line-requires c = held_line c.requires.1 c.in-Line.is
 
--- refusal 15 is never the answer of either planner
-pub returns-in_err-plan : goal.returns-in_err-plan
-returns-in_err-plan c held = absurd (c.in_err-plan.ensures (held_line c.if-net-eq1.true held))
+pub returns-in_err-plan-in-Line : goal.returns-in_err-plan-in-Line
+returns-in_err-plan-in-Line c book held = absurd (c.in_err-plan-in-Line.ensures (held_line held c.in-Line.is))
 
-pub returns-then-net-eq1 : goal.returns-then-net-eq1
-returns-then-net-eq1 c held =
-    let shape = c.if-net-eq1.true in
-    on_line held shape (c.in_ok-plan.ensures (held_line shape held))
+pub returns-in_ok-plan-in-Line : goal.returns-in_ok-plan-in-Line
+returns-in_ok-plan-in-Line c book held = on_line held c.in-Line.is (c.in_ok-plan-in-Line.ensures (held_line held c.in-Line.is))
 
 pub plan_ring-requires : goal.plan_ring-requires
-plan_ring-requires c = held_ring c.if-net-eq1.false c.requires
+plan_ring-requires c = held_ring c.requires.1 c.in-Ring.is
 
-pub returns-in_err-plan-2 : goal.returns-in_err-plan-2
-returns-in_err-plan-2 c held = absurd (c.in_err-plan-2.ensures (held_ring c.if-net-eq1.false held))
+pub returns-in_err-plan-in-Ring : goal.returns-in_err-plan-in-Ring
+returns-in_err-plan-in-Ring c book held = absurd (c.in_err-plan-in-Ring.ensures (held_ring held c.in-Ring.is))
 
-pub returns : goal.returns
-returns c held =
-    let shape = c.if-net-eq1.false in
-    on_ring held shape (c.in_ok-plan-2.ensures (held_ring shape held)) refl
+pub returns-in_ok-plan-in-Ring : goal.returns-in_ok-plan-in-Ring
+returns-in_ok-plan-in-Ring c book held = on_ring held c.in-Ring.is (c.in_ok-plan-in-Ring.ensures (held_ring held c.in-Ring.is))
