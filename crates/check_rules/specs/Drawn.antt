@@ -1,8 +1,9 @@
 -- What the rules are decided on: an accepted line as columns of numbers, without its profits. Assumes nothing.
-use Rattle.std.specs.Prelude.{◌≡◌, List, ℕ}
+use Rattle.std.specs.Prelude.{◌≡◌, List, ℕ, length}
 use Rattle.std.proofs.Common.{arith}
 use Rattle.base_sums.specs.At.{NumbersBelow}
 use Rattle.base_sums.specs.Filled.{Filled}
+use Rattle.base_columns.specs.declared.Columns.{Columns}
 use Rattle.paper_book.specs.Book as Books
 use Rattle.paper_book.specs.Book.{Book, limit, end_a, end_b}
 use Rattle.paper_book.specs.Columns.{a_below, b_below}
@@ -17,6 +18,10 @@ pub record Drawn (book : Book) (spans : ℕ) (limits : List ℕ) (count : ℕ) (
   pub limit_is : Filled (limit book) spans limits
   pub a_is : Filled (end_a book) count a
   pub b_is : Filled (end_b book) count b
+
+-- lent columns that hold one
+abbrev pub DrawnColumns : Book → Columns → Type 0
+DrawnColumns book c = Drawn book (length c.limits.now) c.limits.now (length c.a.now) c.a.now c.b.now
 
 -- the rules do not look at the profits
 pub drawn :

@@ -1,7 +1,7 @@
 -- The loads along a line, by counting ends. How many begin and how many end at each node is counted once; then on the way from span to span those that begin
 -- are added and those that end taken off, and what is left is the number that cross the span. Assumes nothing.
-use Rattle.std.specs.Prelude.{List, ◌≡◌, refl, ℕ, ◌+◌, ◌-◌, ◌≤◌, ◌<◌, set, replicate, length, leb, ltb, eqb}
-use Rattle.std.proofs.Common.{⊎_elim, sym, ◌∙◌, arith, below_more, lt-ltb, le-ltb, le-leb, eq-eqb, ne_eqb, length-set}
+use Rattle.std.specs.Prelude.{List, ◌≡◌, refl, ℕ, ◌+◌, ◌-◌, ◌≤◌, ◌<◌, set, replicate, length, take, leb, ltb, eqb}
+use Rattle.std.proofs.Common.{⊎_elim, sym, ap, ◌∙◌, arith, below_more, lt-ltb, le-ltb, le-leb, eq-eqb, ne_eqb, length-set, length-take-le, get_or-take}
 use Rattle.std.proofs.lemmas.Bool.{lt-leb}
 use Rattle.base_sums.specs.At.{zeros, Stored, store}
 use Rattle.base_sums.specs.Between.{is_between}
@@ -43,6 +43,14 @@ module _ {nodes : List ℕ} where
             elsewhere : (v ≡ at nodes i → ⊥) → at (set tally (at nodes i) (at tally (at nodes i) + 1)) v ≡ Σ (i + 1) (λ j. bit (eqb (at nodes j) v))
             elsewhere ne =
                 rw (counted.elsewhere v ne) (omega (arith, was.is v l, Σ-more i (λ j. bit (eqb (at nodes j) v)), same_none (at nodes i) v (λ q. ne (sym q))))
+
+-- the first part of a column, lent, is counted as the column is
+pub tallied_part :
+    {count : ℕ} {nodes tally : List ℕ} → count ≤ length nodes → Tallied (length (take count nodes)) (take count nodes) tally → Tallied count nodes tally
+tallied_part {count} {nodes} l t = record {
+  long = t.long;
+  is = λ v h. (rw (length-take-le count nodes l) at t.is v h) ∙ Σ-ext count _ _ (λ i k. ap (λ (n : ℕ). bit (eqb n v)) (get_or-take count nodes i 0 k));
+}
 
 -- ---- from span to span
 

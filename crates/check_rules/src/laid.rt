@@ -4,6 +4,7 @@ ghost use Rattle.paper_book.specs.Bytes.{entry_in};
 ghost use Rattle.check_rules.specs.Entry.{LayingPlan, Lays};
 
 use crate::{entry_at, formed, where_kept};
+use base_columns::Columns;
 
 // For each request where it begins, where it ends, whether it crosses a span at all, and its channel.
 #[derive(Clone, Copy)]
@@ -16,19 +17,14 @@ pub struct Laid {
 
 impl Laid {
     // Lays the plan out. The answer is whether every entry by itself obeys the rules; at the first that does not it stops.
-    pub fn lay(
-        &mut self,
-        channels: usize,
-        count: usize,
-        a: &[usize; 256],
-        b: &[usize; 256],
-        entries: &[u8],
-    ) -> bool
-        requires count_bound { (count ≤ 256) × (2 * count ≤ length entries.now) }
-        requires laying_plan { LayingPlan 0 a.now b.now (entry_in entries.now) self.old.lo self.old.hi self.old.crossing self.old.channel }
-        ensures { Lays result channels count a.now b.now entries.now self.new.lo self.new.hi self.new.crossing self.new.channel }
+    pub fn lay(&mut self, columns: &Columns, channels: usize, entries: &[u8]) -> bool
+        requires count_bound { (length columns.now.a.now ≤ 256) × (2 * length columns.now.a.now ≤ length entries.now) }
+        requires laying_plan { LayingPlan 0 columns.now.a.now columns.now.b.now (entry_in entries.now) self.old.lo self.old.hi self.old.crossing self.old.channel }
+        ensures { Lays result channels (length columns.now.a.now) columns.now.a.now columns.now.b.now entries.now self.new.lo self.new.hi self.new.crossing self.new.channel }
     {
-        for i in 0..count {
+        let a = columns.a;
+        let b = columns.b;
+        for i in 0..a.len() {
             let entry = entry_at(entries, i);
             if !formed(channels, a[i], b[i], entry) {
                 return false;

@@ -9,12 +9,13 @@ ghost use Rattle.paper_book.specs.Book.{Book};
 ghost use Rattle.paper_book.specs.Bytes.{entry_in};
 ghost use Rattle.paper_rules.specs.Ways.{way_from};
 ghost use Rattle.paper_rules.specs.Plans.{obeys};
-ghost use Rattle.check_rules.specs.Drawn.{Drawn};
+ghost use Rattle.check_rules.specs.Drawn.{DrawnColumns};
 ghost use Rattle.check_rules.specs.Entry.{formed_at};
 
 mod laid;
 mod sweep;
 
+use base_columns::Columns;
 use laid::Laid;
 
 // Entry i of the lent list: two bytes, high byte first. (A price has four: check_plan's `price_at`, by another definition, so that one function for both says less.)
@@ -63,18 +64,10 @@ pub fn where_kept(value: usize, entry: usize) -> usize
 }
 
 // Whether the plan obeys the rules.
-pub fn lawful(
-    spans: usize,
-    channels: usize,
-    limits: &[usize; 64],
-    count: usize,
-    a: &[usize; 256],
-    b: &[usize; 256],
-    entries: &[u8],
-) -> bool
-    requires spans_bound { (spans ≤ 64) × (2 * count ≤ length entries.now) }
-    requires numbers_below { NumbersBelow 64 count a.now × NumbersBelow 64 count b.now }
-    ensures { (book : Book) → Drawn book spans limits.now count a.now b.now → channels ≡ book.channels → result ≡ obeys book (entry_in entries.now) }
+pub fn lawful(columns: &Columns, channels: usize, entries: &[u8]) -> bool
+    requires spans_bound { (length columns.now.limits.now ≤ 64) × (2 * length columns.now.a.now ≤ length entries.now) }
+    requires numbers_below { NumbersBelow 64 (length columns.now.a.now) columns.now.a.now × NumbersBelow 64 (length columns.now.a.now) columns.now.b.now }
+    ensures { (book : Book) → DrawnColumns book columns.now → channels ≡ book.channels → result ≡ obeys book (entry_in entries.now) }
 {
     let mut laid = Laid {
         lo: [0; 256],
@@ -82,8 +75,8 @@ pub fn lawful(
         crossing: [false; 256],
         channel: [0; 256],
     };
-    if !laid.lay(channels, count, a, b, entries) {
+    if !laid.lay(columns, channels, entries) {
         return false;
     }
-    laid.within_limits(spans, limits, count) && laid.channels_apart(spans, count)
+    laid.within_limits(columns) && laid.channels_apart(columns)
 }

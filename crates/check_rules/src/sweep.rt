@@ -1,5 +1,5 @@
 // One sweep along the line decides the spans, with a step for each request and each span: how many cross a span, and whether two of them have one channel.
-ghost use Rattle.std.specs.Prelude.{◌≤◌, ◌<◌};
+ghost use Rattle.std.specs.Prelude.{◌≤◌, ◌<◌, length};
 ghost use Rattle.base_sums.specs.At.{NumbersBelow};
 ghost use Rattle.plan_channels.specs.Lists.{ListedByNode};
 ghost use Rattle.check_rules.specs.Spans.{Decides, LaidUpward, CanSweep, WithinSpans, ApartSpans};
@@ -7,30 +7,33 @@ ghost use Rattle.check_rules.specs.Loads.{Tallied};
 ghost use Rattle.check_rules.specs.Sweep.{Swept, Passed};
 
 use crate::laid::Laid;
+use base_columns::Columns;
 
 // Counts a column of nodes by node.
-fn tally_up(count: usize, nodes: &[usize; 256], tally: &mut [usize; 64])
-    requires numbers_below { NumbersBelow 64 count nodes.now }
+fn tally_up(nodes: &[usize], tally: &mut [usize; 64])
+    requires numbers_below { NumbersBelow 64 (length nodes.now) nodes.now }
     requires tallied { Tallied 0 nodes.now tally.old }
-    ensures { Tallied count nodes.now tally.new }
+    ensures { Tallied (length nodes.now) nodes.now tally.new }
 {
-    for v in &nodes[..count] {
+    for v in nodes {
         tally[*v] += 1;
     }
 }
 
 impl Laid {
     // Whether no more cross a span than its limit. On the way from span to span those that begin at a node are added, and those that end there taken off.
-    pub fn within_limits(&self, spans: usize, limits: &[usize; 64], count: usize) -> bool
-        requires { (spans ≤ 64) × LaidUpward count self.now.lo self.now.hi }
-        ensures { Decides result (WithinSpans spans limits.now count self.now.lo self.now.hi) }
+    pub fn within_limits(&self, columns: &Columns) -> bool
+        requires { (length columns.now.limits.now ≤ 64) × LaidUpward (length columns.now.a.now) self.now.lo self.now.hi }
+        ensures { Decides result (WithinSpans (length columns.now.limits.now) columns.now.limits.now (length columns.now.a.now) self.now.lo self.now.hi) }
     {
+        let limits = columns.limits;
+        let count = columns.a.len();
         let mut begins = [0usize; 64];
         let mut ends = [0usize; 64];
-        tally_up(count, &self.lo, &mut begins);
-        tally_up(count, &self.hi, &mut ends);
+        tally_up(&self.lo[..count], &mut begins);
+        tally_up(&self.hi[..count], &mut ends);
         let mut load = 0;
-        for s in 0..spans {
+        for s in 0..limits.len() {
             load = load + begins[s] - ends[s];
             if limits[s] < load {
                 return false;
@@ -67,16 +70,17 @@ impl Laid {
     }
 
     // Whether no two that cross a span have one channel there.
-    pub fn channels_apart(&self, spans: usize, count: usize) -> bool
-        requires { (spans ≤ 64) × CanSweep count self.now.lo self.now.hi self.now.crossing self.now.channel }
-        ensures { Decides result (ApartSpans spans count self.now.lo self.now.hi self.now.channel) }
+    pub fn channels_apart(&self, columns: &Columns) -> bool
+        requires { (length columns.now.limits.now ≤ 64) × CanSweep (length columns.now.a.now) self.now.lo self.now.hi self.now.crossing self.now.channel }
+        ensures { Decides result (ApartSpans (length columns.now.limits.now) (length columns.now.a.now) self.now.lo self.now.hi self.now.channel) }
     {
-        // 256 leads to none: every number is below it
+        let count = columns.a.len();
+        // 256 leads to none: every number is below it. (No Option: `begin_lists` is plan_channels's, and keeps its signature.)
         let mut first = [256usize; 128];
         let mut after = [0usize; 256];
         plan_channels::begin_lists(count, &self.lo, &self.crossing, &mut first, &mut after);
         let mut ends = [0usize; 256];
-        for v in 0..spans {
+        for v in 0..columns.limits.len() {
             if !self.apart_from(v, count, &first, &after, &mut ends) {
                 return false;
             }

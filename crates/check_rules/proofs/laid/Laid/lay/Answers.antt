@@ -1,6 +1,7 @@
 use mathlib.Core.Path.{◌≡◌, sym, ◌∙◌}
 use native.Mathlib.Omega.{arith}
 use borrow.Author.Count.{below_more}
+use Rattle.std.proofs.Common.{length}
 use Rattle.paper_rules.specs.Plans as Plans
 use Rattle.paper_rules.specs.Plans.{kept}
 use Rattle.check_rules.specs.Entry.{lays_wrong, lays_all, laying_more}
@@ -29,5 +30,5 @@ loop-i-preserved c =
 pub returns : goal.returns
 returns c =
     let l = c.loop-i in
-    let all : l.i ≡ c.args.count = omega arith in
+    let all : l.i ≡ length c.args.columns.now.a.now = omega arith in
     lays_all (λ k h. l.invariant.0 k (omega arith)) (rw all at l.invariant.1.so_far)
