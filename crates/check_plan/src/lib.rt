@@ -6,15 +6,16 @@ ghost use Rattle.std.specs.Prelude.{◌≡◌};
 ghost use Rattle.paper_book.specs.Bytes.{entry_in, price_in};
 ghost use Rattle.paper_rules.specs.Prices.{verdict};
 ghost use Rattle.paper_rules.specs.Operations.{checking, checker};
-ghost use Rattle.work_columns.specs.Seam.{HeldBook};
-ghost use Rattle.check_plan.specs.CanCheck.{CanCheck};
+ghost use Rattle.paper_book.specs.Book.{Book};
+ghost use Rattle.work_columns.specs.Seam.{HeldColumns};
+ghost use Rattle.check_plan.specs.CanCheck.{CheckableColumns};
 ghost use Rattle.check_plan.specs.Checked.{checked_of};
 
 mod places;
 mod totals;
 
-use read_record::{Network, Refusal};
-use work_columns::RequestColumns;
+use base_columns::Columns;
+use read_record::{Network, Refusal, Row, Shape};
 
 // What a plan that can be checked comes to.
 #[derive(Clone, Copy, Debug, PartialEq, Eq)]
@@ -23,64 +24,51 @@ pub enum Verdict {
     No,
 }
 
-// What is checked: an accepted book with its requests as columns, and the lent lists of entries and of prices.
+// What is checked: an accepted book's network and its numbers as columns, and the lent lists of entries and of prices.
 #[derive(Clone, Copy)]
 struct Claim<'a> {
     network: Network,
-    limits: &'a [usize; 64],
-    count: usize,
-    cols: &'a RequestColumns,
+    columns: &'a Columns<'a>,
     entries: &'a [u8],
     prices: &'a [u8],
 }
 
 impl<'a> Claim<'a> {
     // Whether the plan obeys the rules and its earnings equal the ceiling of the prices.
-    fn weigh(&self, spans: usize) -> bool
-        requires { CanCheck spans self.now.limits.now self.now.count self.now.cols.now.a self.now.cols.now.b self.now.cols.now.profit self.now.entries.now self.now.prices.now }
-        ensures { (w : CanCheck spans self.now.limits.now self.now.count self.now.cols.now.a self.now.cols.now.b self.now.cols.now.profit self.now.entries.now self.now.prices.now) → self.now.network.channels ≡ w.book.channels → result ≡ verdict w.book (entry_in self.now.entries.now) (price_in self.now.prices.now) }
+    fn weigh(&self) -> bool
+        requires { CheckableColumns self.now.columns.now self.now.entries.now self.now.prices.now }
+        ensures { (w : CheckableColumns self.now.columns.now self.now.entries.now self.now.prices.now) → self.now.network.channels ≡ w.book.channels → result ≡ verdict w.book (entry_in self.now.entries.now) (price_in self.now.prices.now) }
     {
-        let cols = self.cols;
-        check_rules::lawful(
-            spans,
-            self.network.channels,
-            self.limits,
-            self.count,
-            &cols.a,
-            &cols.b,
-            self.entries,
-        ) && self.balanced(spans)
+        check_rules::lawful(self.columns, self.network.channels, self.entries) && self.balanced()
     }
 
     // 14 for a ring, then 12, then 13, and only then yes or no.
     fn check(&self) -> Result<Verdict, Refusal>
-        requires { HeldBook self.now.network self.now.count self.now.limits.now self.now.cols.now.a self.now.cols.now.b self.now.cols.now.profit }
-        ensures { (h : HeldBook self.now.network self.now.count self.now.limits.now self.now.cols.now.a self.now.cols.now.b self.now.cols.now.profit) → checked_of result ≡ checking h.book self.now.entries.now self.now.prices.now }
+        requires { (book : Book) × HeldColumns book self.now.network self.now.columns.now }
+        ensures { (book : Book) → HeldColumns book self.now.network self.now.columns.now → checked_of result ≡ checking book self.now.entries.now self.now.prices.now }
     {
-        let network = self.network;
-        if network.shape == 2 {
+        let shape = self.network.shape;
+        if let Shape::Ring = shape {
             return Err(Refusal {
-                number: 14,
+                row: Row::Ring,
                 place: 0,
             });
         }
-        let spans = network.nodes - 1;
-        if read_record::shapes::short(
-            network.shape,
-            spans,
-            self.count,
-            self.entries.len() / 2,
-            self.prices.len() / 4,
-        ) {
+        let spans = self.columns.limits.len();
+        let count = self.columns.a.len();
+        if shape.short(spans, count, self.entries.len() / 2, self.prices.len() / 4) {
             return Err(Refusal {
-                number: 12,
+                row: Row::Short,
                 place: 0,
             });
         }
         if let Some(place) = places::dear(self.prices, spans) {
-            return Err(Refusal { number: 13, place });
+            return Err(Refusal {
+                row: Row::Price,
+                place,
+            });
         }
-        if self.weigh(spans) {
+        if self.weigh() {
             return Ok(Verdict::Yes);
         }
         Ok(Verdict::No)
@@ -91,17 +79,15 @@ impl<'a> Claim<'a> {
 pub fn check_plan(file: &[u8], entries: &[u8], prices: &[u8]) -> Result<Verdict, Refusal>
     ensures { checked_of result ≡ checker file.now entries.now prices.now }
 {
-    let taken = read_book::read_book(file);
-    let network = match taken.answer {
-        read_book::Answer::Accepted(network) => network,
-        read_book::Answer::Refused(refusal) => return Err(refusal),
-    };
+    let taken = read_book::read_book(file)?;
+    let network = taken.network;
+    let spans = network.shape.spans_of(network.nodes);
     let cols = work_columns::columns(&taken.requests, taken.count);
+    let limits = &taken.limits[..spans];
+    let columns = cols.lend(limits, taken.count);
     let claim = Claim {
         network,
-        limits: &taken.limits,
-        count: taken.count,
-        cols: &cols,
+        columns: &columns,
         entries,
         prices,
     };

@@ -11,10 +11,10 @@ pub ceiling_of-top-requires : goal.ceiling_of-top-requires
 ceiling_of-top-requires c = priced_line c.requires c.price_list-list.ensures
 
 pub earned-requires : goal.earned-requires
-earned-requires c = can_earn c.requires
+earned-requires c = rw c.args.self.now.columns.now.profit_even (can_earn c.requires)
 
 pub returns : goal.returns
 unfolding priced_line
 returns c w =
     let listed = c.price_list-list.ensures in
-    same_balance w listed c.earned.ensures (c.ceiling_of-top.ensures (priced_line w listed))
+    same_balance w listed (rw c.args.self.now.columns.now.profit_even at c.earned.ensures) (c.ceiling_of-top.ensures (priced_line w listed))
