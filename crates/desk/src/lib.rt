@@ -11,29 +11,21 @@ ghost use Rattle.desk.specs.Packing.{packed_verdict};
 ghost use Rattle.desk.specs.Promise.{PlanAnswer};
 
 use check_plan::Verdict;
-use plan_book::Answer;
+use read_record::Shape;
 
 // Plans the book. On success the entries are written, and on a line the prices, and the answer packs earnings, number kept and cut; on a refusal nothing
 // is written, and the answer packs its number and place.
 pub fn melyonva_plan(book: &[u8], entries: &mut [u8], prices: &mut [u8]) -> u64
     ensures { PlanAnswer book.now entries.old prices.old result entries.new prices.new }
 {
-    let made = plan_book::plan_book(book, entries.len() / 2, prices.len() / 4);
-    let answer = made.answer;
-    let plan = made.entries;
-    let asked = made.prices;
-    match answer {
-        Answer::Refused(refusal) => pack::refusal(refusal),
-        Answer::Planned {
-            earned,
-            number,
-            cut,
-        } => {
-            write::write_numbers(2, made.count, &plan, entries);
-            if made.shape == 1 {
-                write::write_numbers(4, made.spans, &asked, prices);
+    match plan_book::plan_book(book, entries.len() / 2, prices.len() / 4) {
+        Err(refusal) => pack::refusal(refusal),
+        Ok(plan) => {
+            write::write_numbers(2, plan.count, &plan.entries, entries);
+            if let Shape::Line = plan.shape {
+                write::write_numbers(4, plan.spans, &plan.prices, prices);
             }
-            pack::plan(earned, number, cut)
+            pack::plan(plan.earned, plan.number, plan.cut)
         }
     }
 }

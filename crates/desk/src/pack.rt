@@ -1,5 +1,6 @@
 // The one number that goes back to the desk (docs/DESK.md).
 ghost use Rattle.std.specs.Prelude.{◌≡◌};
+ghost use Rattle.read_record.specs.Numbers.{number_of};
 ghost use Rattle.desk.specs.Packing.{packed_refusal, packed_plan};
 ghost use Rattle.desk.specs.Bounds.{SmallRefusal, SmallPlan};
 
@@ -7,10 +8,10 @@ use read_record::Refusal;
 
 // A refusal: the highest bit, its number and its place.
 pub fn refusal(refusal: Refusal) -> u64
-    requires { SmallRefusal refusal.number refusal.place }
-    ensures { result ≡ packed_refusal refusal.number refusal.place }
+    requires { SmallRefusal (number_of refusal.row) refusal.place }
+    ensures { result ≡ packed_refusal (number_of refusal.row) refusal.place }
 {
-    9223372036854775808 + refusal.number as u64 * 4294967296 + refusal.place as u64
+    9223372036854775808 + refusal.row.number() as u64 * 4294967296 + refusal.place as u64
 }
 
 // A plan: earnings, number kept and cut.

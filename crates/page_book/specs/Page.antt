@@ -1,6 +1,6 @@
 -- What the printing program writes: the text of the reading's refusal, or of a plan that the planner hands back. Lists of 256 and 64 places are long enough
 -- for every book, so 12 is never printed. Assumes nothing.
-use Rattle.std.specs.Prelude.{Bool, false, cond, List, ◌≡◌, refl, ℕ, ◌≤◌, length, take, drop}
+use Rattle.std.specs.Prelude.{Result, Ok, Err, Bool, false, cond, List, ◌≡◌, refl, ℕ, ◌≤◌, length, take, drop}
 use Rattle.std.proofs.Common.{sym, ap, ◌∙◌, arith, length-take}
 use Rattle.base_sums.specs.Table.{table}
 use Rattle.paper_book.specs.Book as Books
@@ -17,10 +17,11 @@ use Rattle.page_plan.specs.Printed.{printed_refusal, printed_plan}
 use Rattle.page_plan.specs.Promise.{PrintsRefusal, PrintsPlan, Printable}
 use Rattle.page_plan.specs.Fair.{fair_printable}
 use Rattle.read_record.specs.declared.Refusal.{Refusal}
+use Rattle.read_record.specs.Numbers.{number_of}
+use Rattle.read_record.specs.Shapes.{code_of}
 use Rattle.plan_book.specs.declared.BookPlan.{BookPlan}
-use Rattle.plan_book.specs.declared.Answer.TheVariants.{Planned, Refused}
 use Rattle.plan_book.specs.Promise.{PlanOf, BookPlanned}
-use Rattle.plan_book.specs.Cases.{plan_answered, is_refused, is_planned, plan_holds}
+use Rattle.plan_book.specs.Cases.{is_refused, is_planned, plan_holds}
 
 -- a plan that the planner could hand back, as text
 pub record PlanPage (book : Book) (out : List ℕ) (r : ℕ) : Type 0 where
@@ -59,21 +60,23 @@ put_inside {after} {next} p = omega (arith, length-take next after, ap length (p
 
 -- ---- the two ways out
 
-module _ {file : List ℕ} {r : BookPlan} (b : BookPlanned file 256 64 r) where
-  pub page_refused : {refusal : Refusal} {before after : List ℕ} {k : ℕ} → r.answer ≡ Refused refusal → PrintsRefusal refusal.number refusal.place before after k → Paged file before after k
-  page_refused {refusal} {after} {k} e prints =
+module _ {file : List ℕ} {r : Result BookPlan Refusal} (b : BookPlanned file 256 64 r) where
+  pub page_refused :
+      {refusal : Refusal} {number : ℕ} {before after : List ℕ} {k : ℕ} → r ≡ Err refusal → number ≡ number_of refusal.row
+      → PrintsRefusal number refusal.place before after k → Paged file before after k
+  page_refused {refusal} {number} {before} {after} {k} e is_number prints =
       record {
         fits = prints.fits;
         inside = put_inside prints.text;
         later = prints.text.beyond;
-        refusal = λ n p h. let is = read in let number : refusal.number ≡ n = cc in let place : refusal.place ≡ p = cc in rw (← number, ← place) (put_front prints.text);
+        refusal = λ n p h. let is = read in let same : number ≡ n = cc in let place : refusal.place ≡ p = cc in rw (← same, ← place) (put_front prints.text);
         plan = λ book h. absurd (refused_not_done (sym read ∙ h));
       }
     where
-      read : reading file ≡ refused refusal.number refusal.place
-      read = sym (plannable_is file) ∙ is_refused b e
+      read : reading file ≡ refused number refusal.place
+      read = sym (plannable_is file) ∙ (is_refused b e ∙ ap (λ (n : ℕ). refused n refusal.place) (sym is_number))
 
-  module _ {earned number cut : ℕ} (e : r.answer ≡ Planned earned number cut) where
+  module _ {plan : BookPlan} (e : r ≡ Ok plan) where
     -- the book that was read, and its plan
     abbrev book : Book
     book = (is_planned b e).0
@@ -81,14 +84,16 @@ module _ {file : List ℕ} {r : BookPlan} (b : BookPlanned file 256 64 r) where
     read : reading file ≡ done book
     read = sym (plannable_is file) ∙ (is_planned b e).1
 
-    ours : PlanOf book r
-    ours = b.plan book (is_planned b e).1
+    ours : PlanOf book plan
+    ours = (is_planned b e).2
 
-    pub page_printable : Printable r.count r.a r.b r.entries
+    pub page_printable : Printable plan.count plan.a plan.b plan.entries
     page_printable = fair_printable ours.sound (plan_holds ours) ours.planned.fair
 
-    pub page_planned : {before after : List ℕ} {k : ℕ} → PrintsPlan r.shape r.count earned number cut r.a r.b r.entries before after k → Paged file before after k
-    page_planned {before} {after} {k} prints =
+    pub page_planned :
+        {shape : ℕ} {before after : List ℕ} {k : ℕ} → shape ≡ code_of plan.shape
+        → PrintsPlan shape plan.count plan.earned plan.number plan.cut plan.a plan.b plan.entries before after k → Paged file before after k
+    page_planned {shape} {before} {after} {k} code prints =
         record {
           fits = prints.fits;
           inside = put_inside text;
@@ -97,8 +102,8 @@ module _ {file : List ℕ} {r : BookPlan} (b : BookPlanned file 256 64 r) where
           plan = λ other h. let is = read in let same : book ≡ other = cc in rw same at shown;
         }
       where
-        text : Put before after 0 (printed_plan book (at r.entries) earned number cut) k
-        text = prints.text book book.limits (table (Books.count book) (profit book)) (sym ours.shape_is) (plan_holds ours)
+        text : Put before after 0 (printed_plan book (at plan.entries) plan.earned plan.number plan.cut) k
+        text = prints.text book book.limits (table (Books.count book) (profit book)) (sym (code ∙ ours.shape_is)) (plan_holds ours)
 
         shown : PlanPage book after k
-        shown = record { plan = at r.entries; earned = earned; number = number; cut = cut; planned = plan_answered ours e; text = put_front text }
+        shown = record { plan = at plan.entries; earned = plan.earned; number = plan.number; cut = plan.cut; planned = ours.planned; text = put_front text }

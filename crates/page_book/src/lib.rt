@@ -3,25 +3,22 @@
 
 ghost use Rattle.page_book.specs.Page.{Paged};
 
-use plan_book::Answer;
-
 // Writes the page of a book at the front of the buffer, leaves the rest of it as it was, and answers the page's length.
 pub fn page(file: &[u8], out: &mut [u8; 4096]) -> usize
     ensures { Paged file.now out.old out.new result }
 {
-    let plan = plan_book::plan_book(file, 256, 64);
-    let answer = plan.answer;
-    let a = plan.a;
-    let b = plan.b;
-    let entries = plan.entries;
-    match answer {
-        Answer::Refused(refusal) => page_plan::print_refusal(out, refusal.number, refusal.place),
-        Answer::Planned {
-            earned,
-            number,
-            cut,
-        } => page_plan::print_plan(
-            out, plan.shape, plan.count, earned, number, cut, &a, &b, &entries,
+    match plan_book::plan_book(file, 256, 64) {
+        Ok(plan) => page_plan::print_plan(
+            out,
+            plan.shape.code(),
+            plan.count,
+            plan.earned,
+            plan.number,
+            plan.cut,
+            &plan.a,
+            &plan.b,
+            &plan.entries,
         ),
+        Err(refusal) => page_plan::print_refusal(out, refusal.row.number(), refusal.place),
     }
 }

@@ -47,3 +47,8 @@ code_back code e =
     ⊎_elim (λ (one : code ≡ 1). rw one refl)
     (λ n. ⊎_elim (λ (two : code ≡ 2). rw two refl) (λ m. let clash = rw (ne_eqb code 1 n, ne_eqb code 2 m) at e in absurd (of_yes clash)) (same_or_not code 2))
     (same_or_not code 1)
+
+-- what is no line is a ring
+pub ring_else : (shape : Shape) → (shape ≡ Line → ⊥) → shape ≡ Ring
+ring_else Line other = absurd (other refl)
+ring_else Ring other = refl
