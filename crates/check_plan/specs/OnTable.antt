@@ -1,4 +1,5 @@
--- An accepted book on the checker's table: what its numbers say is what the ways out ask. A book that is no ring is a line; where the lists are long enough and no price is too high, everything stands that yes or no is said of. Assumes nothing.
+-- An accepted book on the checker's table: what its numbers say is what the ways out ask. A book that is no ring is a line; where the lists
+-- are long enough and no price is too high, everything stands that yes or no is said of. Assumes nothing.
 use Rattle.std.specs.Prelude.{◌≡◌, Bool, false, List, ℕ, ◌/◌, ◌≤◌, ◌<◌, length, ltb}
 use Rattle.std.proofs.Common.{sym, ◌∙◌, ⊎_elim, arith}
 use Rattle.std.proofs.Math.Path.{ap}

@@ -3,10 +3,10 @@
 #![tactic(auto)]
 
 ghost use Rattle.std.specs.Prelude.{◌≡◌};
+ghost use Rattle.paper_book.specs.Book.{Book};
 ghost use Rattle.paper_book.specs.Bytes.{entry_in, price_in};
 ghost use Rattle.paper_rules.specs.Prices.{verdict};
 ghost use Rattle.paper_rules.specs.Operations.{checking, checker};
-ghost use Rattle.paper_book.specs.Book.{Book};
 ghost use Rattle.work_columns.specs.Seam.{HeldColumns};
 ghost use Rattle.check_plan.specs.CanCheck.{CheckableColumns};
 ghost use Rattle.check_plan.specs.Checked.{checked_of};
@@ -24,7 +24,8 @@ pub enum Verdict {
     No,
 }
 
-// What is checked: an accepted book's network and its numbers as columns, and the lent lists of entries and of prices.
+// What is checked: an accepted book's network and its columns, and the lent lists of entries and of prices. (The columns by value would have to be lent as long
+// as the lists are.)
 #[derive(Clone, Copy)]
 struct Claim<'a> {
     network: Network,
