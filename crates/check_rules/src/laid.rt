@@ -17,6 +17,7 @@ pub struct Laid {
 
 impl Laid {
     // Lays the plan out. The answer is whether every entry by itself obeys the rules; at the first that does not it stops.
+    // (No Option<Laid>: it would copy the columns, six kilobytes, on every check.)
     pub fn lay(&mut self, columns: &Columns, channels: usize, entries: &[u8]) -> bool
         requires count_bound { (length columns.now.a.now ≤ 256) × (2 * length columns.now.a.now ≤ length entries.now) }
         requires laying_plan { LayingPlan 0 columns.now.a.now columns.now.b.now (entry_in entries.now) self.old.lo self.old.hi self.old.crossing self.old.channel }

@@ -20,7 +20,8 @@ use Rattle.law_ring.specs.Demand2.{earnings_once}
 use Rattle.law_ring.specs.PlanLine.{line_plan, ring_plan, line_for}
 use Rattle.plan_book.specs.declared.BookPlan.{BookPlan}
 use Rattle.plan_book.specs.Promise.{PlanOf}
-use Rattle.plan_book.specs.Cases.{is_plan, parts_same}
+use Rattle.read_record.specs.Shapes.{same_shape}
+use Rattle.plan_book.specs.Cases.{parts_same}
 
 module _ {book : Book} (sound : Sound book) {plan other : Plan} {earned number cut₁ earned' number' cut₂ : ℕ}
     (p : Planned book plan earned number cut₁) (q : Planned book other earned' number' cut₂)
@@ -70,12 +71,11 @@ module _ {book : Book} {r other : BookPlan} (p : PlanOf book r) (q : PlanOf book
     -- they are one value, but for the prices of a line's spans, which 01 leaves open
     pub plan_equal : (book.shape ≡ 1 → (j : ℕ) → j < spans book → at r.prices j ≡ at other.prices j) → r ≡ other
     plan_equal prices =
-        let earned : p.earned ≡ q.earned = earned_equal p.sound p.planned q.planned in
-        let number : p.number ≡ q.number = number_equal p.sound p.planned q.planned same in
-        let cut : p.cut ≡ q.cut = cut_equal p.sound p.planned q.planned in
         parts_same
-        (is_plan p ∙ rw (earned, number, cut) (sym (is_plan q)))
-        (p.shape_is ∙ sym q.shape_is)
+        (earned_equal p.sound p.planned q.planned)
+        (number_equal p.sound p.planned q.planned same)
+        (cut_equal p.sound p.planned q.planned)
+        (same_shape r.shape other.shape (p.shape_is ∙ sym q.shape_is))
         (p.spans_is ∙ sym q.spans_is)
         (p.count_is ∙ sym q.count_is)
         (vacant_same p.a_end q.a_end (λ i l. p.a_is i l ∙ sym (q.a_is i l)))

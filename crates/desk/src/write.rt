@@ -13,7 +13,8 @@ fn put(out: &mut [u8], offset: usize, width: usize, value: usize)
     out[offset..offset + width].copy_from_slice(&bytes[8 - width..]);
 }
 
-// The first `count` numbers of a list, in so many bytes each: entries have two, prices four.
+// The first `count` numbers of a list, in so many bytes each: entries have two, prices four. (The count stays beside the list: the promise is said of the
+// planner's whole list, and of a part of it would only be said to be the same.)
 pub fn write_numbers(width: usize, count: usize, numbers: &[usize], out: &mut [u8])
     requires few_bytes { width ≤ 8 }
     requires fit { Fit width count numbers.now out.old }
