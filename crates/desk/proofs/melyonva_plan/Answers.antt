@@ -9,6 +9,7 @@ refusal-requires c = refusal_fits c.args.entries.now c.args.prices.now c.plan_bo
 
 pub returns-in-Err : goal.returns-in-Err
 returns-in-Err c = handed_refusal c.args.entries.now c.args.prices.now c.plan_book.ensures c.in-Err.is c.refusal.ensures
+
 pub write_numbers-requires-clause-fit : goal.write_numbers-requires-clause-fit
 write_numbers-requires-clause-fit c = entries_fit c.args.entries.now c.args.prices.now c.plan_book.ensures c.in-Ok.is
 

@@ -9,10 +9,10 @@ returns c =
     let all : length (take (length c.args.columns.now.a.now) c.lay.new.lo) ≡ length c.args.columns.now.a.now = length-take-le _ _ (omega arith) in
     let o = rw all at c.ordered.ensures in
     record {
-  cost = _;
-  candidates = c.lay.ensures;
-  free = _;
-  free_is = c.copy.ensures;
-  room = _;
-  standing = reordered o c.arrange.ensures c.put_back.ensures c.plan_row.ensures;
-}
+      cost = _;
+      candidates = c.lay.ensures;
+      free = _;
+      free_is = c.copy.ensures;
+      room = _;
+      standing = reordered o c.arrange.ensures c.put_back.ensures c.plan_row.ensures;
+    }
