@@ -11,10 +11,8 @@ pub fn by_number(count: usize, list: &mut [usize])
     requires { count ≤ length list.old }
     ensures { Filled (λ i. i) count list.new }
 {
-    let mut i = 0;
-    while i < count {
+    for i in 0..count {
         list[i] = i;
-        i += 1;
     }
 }
 
@@ -23,11 +21,7 @@ pub fn copy(count: usize, list: &[usize], other: &mut [usize])
     requires { (count ≤ length list.now) × (count ≤ length other.old) }
     ensures { Filled (at list.now) count other.new }
 {
-    let mut i = 0;
-    while i < count {
-        other[i] = list[i];
-        i += 1;
-    }
+    other[..count].copy_from_slice(&list[..count]);
 }
 
 // Whether every place from a to b - 1 has room.
@@ -35,12 +29,10 @@ pub fn room_between(room: &[usize], a: usize, b: usize) -> bool
     requires { b ≤ length room.now }
     ensures { result ≡ true → (j : ℕ) → a ≤ j → j < b → 0 < at room.now j }
 {
-    let mut j = a;
-    while j < b {
+    for j in a..b {
         if room[j] == 0 {
             return false;
         }
-        j += 1;
     }
     true
 }
@@ -51,9 +43,7 @@ pub fn take_room(room: &mut [usize], a: usize, b: usize)
     requires by_index { (j : ℕ) → a ≤ j → j < b → 0 < at room.old j }
     ensures { (j : ℕ) → at room.new j + between a b j ≡ at room.old j }
 {
-    let mut j = a;
-    while j < b {
+    for j in a..b {
         room[j] -= 1;
-        j += 1;
     }
 }

@@ -19,7 +19,7 @@ pub fn melyonva_plan(book: &[u8], entries: &mut [u8], prices: &mut [u8]) -> u64
     ensures { PlanAnswer book.now entries.old prices.old result entries.new prices.new }
 {
     match plan_book::plan_book(book, entries.len() / 2, prices.len() / 4) {
-        Err(refusal) => pack::refusal(refusal),
+        Err(refused) => pack::refusal(refused),
         Ok(plan) => {
             write::write_numbers(2, plan.count, &plan.entries, entries);
             if let Shape::Line = plan.shape {

@@ -2,19 +2,12 @@
 ghost use Rattle.std.specs.Prelude.{◌≡◌, ◌+◌, ◌≤◌, ◌<◌, length};
 ghost use Rattle.paper_book.specs.Bytes as B;
 
-// A byte as a number.
-fn wide(x: u8) -> usize
-    ensures { result ≡ x }
-{
-    x as usize
-}
-
 pub fn byte(file: &[u8], at: usize) -> usize
     requires { at < length file.now }
     ensures value { result ≡ B.byte file.now at }
     ensures small { result < 256 }
 {
-    wide(file[at])
+    usize::from(file[at])
 }
 
 pub fn two(file: &[u8], at: usize) -> usize
@@ -49,12 +42,10 @@ pub fn blank(file: &[u8], at: usize, n: usize) -> bool
     requires { at + n ≤ length file.now }
     ensures { result ≡ B.blank file.now at n }
 {
-    let mut i = 0;
-    while i < n {
+    for i in 0..n {
         if byte(file, at + i) != 0 {
             return false;
         }
-        i += 1;
     }
     true
 }

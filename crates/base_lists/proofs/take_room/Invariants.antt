@@ -1,12 +1,8 @@
--- The loop's invariant: one of room is taken on every place from a up to j. The measure is what is left up to b. Assumes nothing.
+-- The loop's invariant: one of room is taken on every place from a up to j. Assumes nothing.
 use mathlib.Core.Path.{◌≡◌}
-use Prim.Native.Nat.{◌-◌}
 use lib.ListN.{length}
 use Rattle.base_lists.specs.Room.{TakenTo}
 use Rattle.base_lists.proofs.take_room.Given as goal
 
 abbrev pub invariant-loop-j : goal.invariant-loop-j
 invariant-loop-j l = (length l.room ≡ length l.initial.room) × TakenTo l.a l.b l.j l.initial.room l.room
-
-abbrev pub decreases-loop-j : goal.decreases-loop-j
-decreases-loop-j l = l.b - l.j

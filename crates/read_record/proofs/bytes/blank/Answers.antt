@@ -7,4 +7,4 @@ pub returns-then-byte-ne0 : goal.returns-then-byte-ne0
 returns-then-byte-ne0 c = sym (not_blank _ _ _ c.loop-i.i (omega arith) (λ e. c.if-byte-ne0.true (c.byte.ensures.value ∙ e)))
 
 pub returns : goal.returns
-returns c = sym (all_blank _ _ _ (λ k h. c.loop-i.invariant.1 k (omega arith)))
+returns c = sym (all_blank _ _ _ (λ k h. c.loop-i.invariant k (omega arith)))
