@@ -28,7 +28,9 @@ impl Extremes {
 }
 
 // What a request of this length counts for: nearly 64 parts in 64 + length, of 16384, by a curve that needs no division. From 76 on it falls no more.
-fn weight(length: usize) -> usize {
+fn weight(length: usize) -> usize
+    ensures { result ≤ 32768 }
+{
     if 76 < length {
         return 8062;
     }
