@@ -1,7 +1,7 @@
 -- Records of one kind read in turn into a list, the first fault ending the reading (document 01, "Refusals by number"). What holds after i
 -- records, none of them refused, each entry standing in the list and nothing past them, is kept by one more record, and at the end it is the answer.
 -- Assumes nothing.
-use Rattle.std.specs.Prelude.{◌≡◌, Result, Ok, Err, Bool, true, false, not, List, ◌⊎◌, ℕ, ◌+◌, ◌<◌, set, T, eqb}
+use Rattle.std.specs.Prelude.{◌≡◌, refl, Result, Ok, Err, IsErr, Bool, true, false, not, List, ◌⊎◌, ℕ, ◌+◌, ◌<◌, set, T, eqb}
 use Rattle.std.proofs.Common.{sym, ◌∙◌, ⊎_elim, arith, below_more, eq-eqb, T_not}
 use Rattle.base_sums.specs.Each.{of_yes}
 use Rattle.base_sums.specs.Filled.{FilledBy, filled_none, filled_more}
@@ -12,6 +12,11 @@ use Rattle.read_record.specs.declared.Record.{Record}
 abbrev pub is_got : Result Record Refusal → Bool
 is_got (Ok r) = true
 is_got (Err refusal) = false
+
+-- a reading that got nothing is refused
+pub else_refused : {r : Result Record Refusal} → ((got : Record) → r ≡ Ok got → ⊥) → IsErr r
+else_refused {r = Ok got} none = absurd (none got refl)
+else_refused {r = Err refusal} none = refl
 
 -- a variant of one tag is of no other
 pub no_other : (k m n : ℕ) → T (not (eqb k m)) → T (not (eqb k n)) → (k ≡ m) ⊎ (k ≡ n) → ⊥

@@ -19,11 +19,14 @@ pub struct Taken {
     pub requests: [Request; 256],
 }
 
-// Reads a book, or says by which number and at which place it is refused.
+// Reads a book, or says by which number and at which place it is refused. (Each record's answer is taken apart by let .. else: document 01 names that form.)
 pub fn read_book(file: &[u8]) -> Result<Taken, Refusal>
     ensures { Reads file.now result }
 {
-    let got = view::through_view(file, 0, Due::Network)?;
+    let reading = view::through_view(file, 0, Due::Network);
+    let Ok(got) = reading else {
+        return Err(reading.unwrap_err());
+    };
     let Record::Network(network) = got else {
         unreachable!()
     };

@@ -32,7 +32,10 @@ pub fn read_requests(part: &[u8], before: usize, nodes: usize) -> Result<Orders,
     let mut requests = [no_request(); 256];
     let count = part.len() / 16;
     for i in 0..count {
-        let got = view::through_view(part, i, Due::Request { before, nodes })?;
+        let reading = view::through_view(part, i, Due::Request { before, nodes });
+        let Ok(got) = reading else {
+            return Err(reading.unwrap_err());
+        };
         let Record::Request(request) = got else {
             unreachable!()
         };

@@ -11,7 +11,10 @@ pub fn read_spans(file: &[u8], channels: usize, spans: usize) -> Result<[usize; 
 {
     let mut limits = [0usize; 64];
     for s in 0..spans {
-        let got = view::through_view(file, 1 + s, Due::Span { channels })?;
+        let reading = view::through_view(file, 1 + s, Due::Span { channels });
+        let Ok(got) = reading else {
+            return Err(reading.unwrap_err());
+        };
         let Record::Span(span) = got else {
             unreachable!()
         };
