@@ -18,27 +18,34 @@ fn places(nodes: usize, j: usize, place: &mut [usize; 128])
     }
 }
 
-// The cut span, which is on no place of that line, gets the higher price of its two neighbours.
-fn bridge(nodes: usize, j: usize, known: &mut [usize; 64])
-    requires { (j < nodes) × (3 ≤ nodes) × (nodes ≤ 64) }
-    ensures { LowPrices known.old → LowPrices known.new }
-{
-    let after = known[plan_turn::span_at(nodes, j, 0)];
-    let before = known[plan_turn::span_at(nodes, j, nodes - 2)];
-    known[j] = before.max(after);
+// Prices known so far: none is too high.
+#[derive(Clone, Copy)]
+pub struct Known {
+    pub prices: [usize; 64],
+    ghost low: { LowPrices prices },
 }
 
-// What the line which cut j leaves can earn, by its own columns. Its prices become the known ones.
-pub fn best_earnings(j: usize, line: &Columns, known: &mut [usize; 64]) -> usize
-    requires line_columns { LineLent line.now }
-    requires j_upto_spans { (j ≤ length line.now.limits.now) × (2 ≤ length line.now.limits.now) × (length line.now.limits.now ≤ 63) × LowPrices known.old }
-    ensures value { (w : LineLent line.now) → result ≡ best w.book }
-    ensures low_prices { LowPrices known.new }
-{
-    let nodes = line.limits.len() + 1;
-    let mut place = [0usize; 128];
-    places(nodes, j, &mut place);
-    let earned = plan_line::best_earnings(line, &place, known);
-    bridge(nodes, j, known);
-    earned
+impl Known {
+    // The cut span, which is on no place of that line, gets the higher price of its two neighbours.
+    fn bridge(&mut self, nodes: usize, j: usize)
+        requires { (j < nodes) × (3 ≤ nodes) × (nodes ≤ 64) }
+    {
+        let after = self.prices[plan_turn::span_at(nodes, j, 0)];
+        let before = self.prices[plan_turn::span_at(nodes, j, nodes - 2)];
+        self.prices[j] = before.max(after);
+    }
+
+    // What the line which cut j leaves can earn, by its own columns. Its prices become the known ones.
+    pub fn best_earnings(&mut self, j: usize, line: &Columns) -> usize
+        requires line_columns { LineLent line.now }
+        requires j_upto_spans { (j ≤ length line.now.limits.now) × (2 ≤ length line.now.limits.now) × (length line.now.limits.now ≤ 63) }
+        ensures { (w : LineLent line.now) → result ≡ best w.book }
+    {
+        let nodes = line.limits.len() + 1;
+        let mut place = [0usize; 128];
+        places(nodes, j, &mut place);
+        let earned = plan_line::best_earnings(line, &place, &mut self.prices);
+        self.bridge(nodes, j);
+        earned
+    }
 }

@@ -6,10 +6,10 @@ mod known;
 
 ghost use Rattle.std.specs.Prelude.{◌≡◌, ◌≤◌, ◌<◌, max, IsOkAnd, length};
 ghost use Rattle.paper_rules.specs.Cuts.{cut, cut_best};
-ghost use Rattle.plan_row.specs.Placing.{LowPrices};
 ghost use Rattle.plan_ring.specs.Promise.{RingLent, PlannableRing, RingPlanned};
 
 use base_columns::Columns;
+use known::Known;
 use plan_channels::NoneLeft;
 
 // The plan of the line which the cut leaves: what it earns and how many are kept, the cut, and an entry for each request.
@@ -23,37 +23,35 @@ pub struct RingPlan {
 
 // What a cut's line can earn at most, and no less: the ceiling of the known prices on it. (The book that the columns hold is asked for by each function here. A ghost
 // field in a type for rings was tried: it has to be a proposition, and the promises speak of the book itself.)
-fn cut_ceiling(ring: &Columns, j: usize, known: &[usize; 64]) -> usize
+fn cut_ceiling(ring: &Columns, j: usize, known: &Known) -> usize
     requires ring_columns { RingLent ring.now }
-    requires j_in_ring { (j < length ring.now.limits.now) × LowPrices known.now }
+    requires j_in_ring { j < length ring.now.limits.now }
     ensures { (w : RingLent ring.now) → cut_best w.book j ≤ result }
 {
     let n = ring.limits.len();
     let turned = plan_turn::turn_columns(ring, j);
     let line = turned.along(n - 1, ring.profit);
     let mut prices = [0; 64];
-    plan_turn::turn_limits(n, j, known, &mut prices);
+    plan_turn::turn_limits(n, j, &known.prices, &mut prices);
     work_ceiling::ceiling_of(&line, &prices)
 }
 
 // What the line which cut j leaves can earn. Its prices become the known ones.
-fn cut_earnings(ring: &Columns, j: usize, known: &mut [usize; 64]) -> usize
+fn cut_earnings(ring: &Columns, j: usize, known: &mut Known) -> usize
     requires ring_columns { RingLent ring.now }
-    requires j_in_ring { (j < length ring.now.limits.now) × LowPrices known.old }
-    ensures value { (w : RingLent ring.now) → result ≡ cut_best w.book j }
-    ensures low_prices { LowPrices known.new }
+    requires j_in_ring { j < length ring.now.limits.now }
+    ensures { (w : RingLent ring.now) → result ≡ cut_best w.book j }
 {
     let turned = plan_turn::turn_columns(ring, j);
     let line = turned.along(ring.limits.len() - 1, ring.profit);
-    known::best_earnings(j, &line, known)
+    known.best_earnings(j, &line)
 }
 
 // The higher of `top` and what the line which cut j leaves can earn. Where even its ceiling is not above `top`, that line is not planned.
-fn raised(ring: &Columns, top: usize, j: usize, known: &mut [usize; 64]) -> usize
+fn raised(ring: &Columns, top: usize, j: usize, known: &mut Known) -> usize
     requires ring_columns { RingLent ring.now }
-    requires j_in_ring { (j < length ring.now.limits.now) × LowPrices known.old }
-    ensures value { (w : RingLent ring.now) → result ≡ max top (cut_best w.book j) }
-    ensures low_prices { LowPrices known.new }
+    requires j_in_ring { j < length ring.now.limits.now }
+    ensures { (w : RingLent ring.now) → result ≡ max top (cut_best w.book j) }
 {
     let above = cut_ceiling(ring, j, known);
     if above <= top {
@@ -68,7 +66,7 @@ fn best_cut(ring: &Columns) -> usize
     requires { RingLent ring.now }
     ensures { (w : RingLent ring.now) → result ≡ cut w.book }
 {
-    let mut known = [0usize; 64];
+    let mut known = Known { prices: [0; 64] };
     let mut best = 0;
     let mut top = cut_earnings(ring, 0, &mut known);
     for j in 1..ring.limits.len() {

@@ -6,19 +6,20 @@ use Rattle.plan_ring.proofs.best_cut.Goals as goal
 use Rattle.plan_ring.proofs.best_cut.Goals.{then-top-earned, else-top-earned}
 
 pub cut_earnings-top-requires-clause-j_in_ring : goal.cut_earnings-top-requires-clause-j_in_ring
-cut_earnings-top-requires-clause-j_in_ring c = (omega (arith, some_nodes c.requires), low_none)
+cut_earnings-top-requires-clause-j_in_ring c = omega (arith, some_nodes c.requires)
+
+-- no prices yet
+pub invariant_of-known : goal.invariant_of-known
+invariant_of-known c = record { low = low_none }
 
 pub loop-j-preserved : goal.loop-j-preserved
-loop-j-preserved c =
+loop-j-preserved c w =
     let l = c.loop-j in
-    let tried = c.raised-earned.ensures in (
-      λ w.
-          elim c.if-top-earned.branch [
-            | then-top-earned x ↦ rw (x.top-is, x.best-is) (best_better (l.invariant.0 w) (tried.value w) x.if-top-earned.true)
-            | else-top-earned x ↦ rw (x.top-is, x.best-is) (best_stays (l.invariant.0 w) (tried.value w) x.if-top-earned.false)
-          ],
-      tried.low_prices,
-    )
+    let tried = c.raised-earned.ensures w in
+    elim c.if-top-earned.branch [
+      | then-top-earned x ↦ rw (x.top-is, x.best-is) (best_better (l.invariant w) tried x.if-top-earned.true)
+      | else-top-earned x ↦ rw (x.top-is, x.best-is) (best_stays (l.invariant w) tried x.if-top-earned.false)
+    ]
 
 pub returns : goal.returns
-returns c w = let l = c.loop-j in best_chosen w.ring (omega (arith, w.nodes_is)) (l.invariant.0 w)
+returns c w = let l = c.loop-j in best_chosen w.ring (omega (arith, w.nodes_is)) (l.invariant w)
