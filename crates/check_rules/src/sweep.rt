@@ -8,6 +8,7 @@ ghost use Rattle.check_rules.specs.Sweep.{Swept, Passed};
 
 use crate::laid::Laid;
 use base_columns::Columns;
+use plan_channels::ByNode;
 
 // Counts a column of nodes by node.
 fn tally_up(nodes: &[usize], tally: &mut [usize; 64])
@@ -44,27 +45,20 @@ impl Laid {
 
     // Whether none of those that begin at node v begins before the latest connection on its channel ends; then it is the latest. `ends` has those ends by
     // channel.
-    fn apart_from(
-        &self,
-        v: usize,
-        count: usize,
-        first: &[usize; 128],
-        after: &[usize; 256],
-        ends: &mut [usize; 256],
-    ) -> bool
+    fn apart_from(&self, v: usize, count: usize, lists: &ByNode, ends: &mut [usize; 256]) -> bool
         requires v_bound { (v < 128) × CanSweep count self.now.lo self.now.hi self.now.crossing self.now.channel }
-        requires listed_by_node { ListedByNode count 0 self.now.lo self.now.crossing first.now after.now }
+        requires listed_by_node { ListedByNode count 0 self.now.lo self.now.crossing lists.now.first lists.now.after }
         requires swept { Swept count self.now.lo self.now.hi self.now.crossing self.now.channel ends.old v 0 }
         ensures { Passed v count self.now.lo self.now.hi self.now.crossing self.now.channel result ends.new }
     {
-        let mut i = first[v];
+        let mut i = lists.first[v];
         while i < count {
             let c = self.channel[i];
             if v < ends[c] {
                 return false;
             }
             ends[c] = self.hi[i];
-            i = after[i];
+            i = lists.after[i];
         }
         true
     }
@@ -75,13 +69,10 @@ impl Laid {
         ensures { Decides result (ApartSpans (length columns.now.limits.now) (length columns.now.a.now) self.now.lo self.now.hi self.now.channel) }
     {
         let count = columns.a.len();
-        // 256 leads to none: every number is below it. (No Option: `begin_lists` is plan_channels's, and keeps its signature.)
-        let mut first = [256usize; 128];
-        let mut after = [0usize; 256];
-        plan_channels::begin_lists(count, &self.lo, &self.crossing, &mut first, &mut after);
+        let lists = ByNode::of(&self.lo[..count], &self.crossing[..count]);
         let mut ends = [0usize; 256];
         for v in 0..columns.limits.len() {
-            if !self.apart_from(v, count, &first, &after, &mut ends) {
+            if !self.apart_from(v, count, &lists, &mut ends) {
                 return false;
             }
         }

@@ -1,6 +1,6 @@
 -- How planning a line meets its promise: from the columns of a line's book to a row that can be solved, from what solves it to channels and prices,
 -- and from these to a best plan that the checker accepts. Every step is a law of the crates below. Assumes nothing.
-use Rattle.std.specs.Prelude.{◌≡◌, refl, Bool, true, List, ◌++◌, ℕ, suc, ◌-◌, ◌≤◌, ◌<◌, length, drop, replicate, ℤ, Result, ⊤}
+use Rattle.std.specs.Prelude.{◌≡◌, refl, Bool, true, List, ◌++◌, ℕ, suc, ◌≤◌, ◌<◌, length, drop, replicate, ℤ, Result, ⊤}
 use Rattle.std.proofs.Common.{sym, ◌∙◌}
 use Rattle.std.proofs.Math.Path.{ap, subst}
 use native.Mathlib.Omega.{arith}

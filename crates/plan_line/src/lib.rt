@@ -47,11 +47,10 @@ pub fn plan_line(line: &Columns, channels: usize) -> Result<LinePlan, NoneLeft>
     let set = plan_row::solve(line);
     plan_channels::hand_out(
         cells,
-        count,
         channels,
-        &set.lo,
-        &set.hi,
-        &set.kept,
+        &set.lo[..count],
+        &set.hi[..count],
+        &set.kept[..count],
         &mut channel,
     )?;
     entries::enter(line, &set.kept, &channel, &mut entries);

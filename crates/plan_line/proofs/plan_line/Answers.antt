@@ -4,6 +4,7 @@ use mathlib.Core.Path.{sym}
 use native.Mathlib.Omega.{arith}
 use lib.Seq.{length-take-le}
 use Rattle.base_sums.specs.Vacant.{vacant_new}
+use Rattle.plan_channels.specs.Part.{can_part, handed_whole}
 use Rattle.plan_row.specs.Placing.{line_places, line_placed}
 use Rattle.plan_line.specs.Promised.{can_solve, can_hand_out, falling, placed_end, planned}
 use Rattle.plan_line.proofs.plan_line.Goals as goal
@@ -11,8 +12,8 @@ use Rattle.plan_line.proofs.plan_line.Goals as goal
 pub solve-set-requires : goal.solve-set-requires
 solve-set-requires c = can_solve c.requires.columns
 
-pub hand_out-requires : goal.hand_out-requires
-hand_out-requires c = can_hand_out c.requires.columns c.solve-set.ensures c.requires.channels_is
+pub hand_out-requires-clause-can : goal.hand_out-requires-clause-can
+hand_out-requires-clause-can c = can_part (omega arith) (can_hand_out c.requires.columns c.solve-set.ensures c.requires.channels_is)
 
 pub by_number-requires : goal.by_number-requires
 by_number-requires c = omega (arith, (can_solve c.requires.columns).cells_upto)
@@ -39,7 +40,7 @@ returns c w =
     w.columns
     c.solve-set.ensures
     w.channels_is
-    c.hand_out.ensures
+    (handed_whole (omega arith) c.hand_out.ensures)
     c.enter.ensures.entered
     (line_placed c.by_number.ensures (length-take-le _ _ (omega (arith, few))) c.price.ensures _)
     (c.enter.ensures.vacant (vacant_new 0 _ 256))

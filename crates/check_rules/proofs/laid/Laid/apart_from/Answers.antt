@@ -14,6 +14,6 @@ pub loop-i-preserved : goal.loop-i-preserved
 loop-i-preserved c =
     let own = c.loop-i.invariant.1 (omega arith) in
     let can = c.requires.v_bound.1 in
-    let next : Leads c.args.count (c.loop-i.i + 1) c.args.v c.args.self.now.lo c.args.self.now.crossing (at c.args.after.now c.loop-i.i) =
+    let next : Leads c.args.count (c.loop-i.i + 1) c.args.v c.args.self.now.lo c.args.self.now.crossing (at c.args.lists.now.after c.loop-i.i) =
     rw own.1 at (c.requires.listed_by_node.next c.loop-i.i (omega arith) (omega arith) own.0) in
     (next.upto, next.here, swept_pass can (swept_more can c.loop-i.invariant.2 (omega arith) own.0 own.1 (omega arith)) next)

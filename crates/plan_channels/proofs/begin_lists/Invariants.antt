@@ -1,7 +1,0 @@
--- `plan_channels::begin_lists` meets its contract. The numbers from e on are in the lists (`ListedByNode` of specs/Lists): one that is not kept is passed over, any other
--- comes in front of its node's list. Assumes nothing.
-use Rattle.plan_channels.specs.Lists.{ListedByNode}
-use Rattle.plan_channels.proofs.begin_lists.Given as goal
-
-abbrev pub invariant-loop-e : goal.invariant-loop-e
-invariant-loop-e l = ListedByNode l.count l.e l.lo l.kept l.first l.after
