@@ -4,4 +4,4 @@ use Rattle.plan_insert.specs.State.{ground_in}
 use Rattle.plan_insert.specs.declared.ground.Ground.{Ground}
 
 abbrev pub ground_of : Ground → flow.Ground
-ground_of g = ground_in g.row.cells g.t g.row.lo.now g.row.hi.now g.row.cost.now g.kept.now g.room.now g.dist.now
+ground_of g = ground_in g.row.now.cells g.t g.row.now.lo g.row.now.hi g.row.now.cost g.kept.now g.room.now g.dist.now

@@ -4,7 +4,7 @@ use Rattle.plan_insert.specs.State.{at, Flagged, ends_of, Chained, Links, links,
 use Rattle.plan_insert.specs.State as state
 use Rattle.plan_insert.specs.declared.ground.Side.{Side}
 use Rattle.plan_insert.specs.declared.ground.Side.TheVariants.{Dropped, Held}
-use Rattle.plan_insert.specs.declared.ground.Row.{Row}
+use Rattle.plan_insert.specs.declared.Row.{Row}
 use Rattle.plan_insert.specs.declared.chains.Chain.{Chain}
 use Rattle.plan_insert.specs.declared.chains.Sides.{Sides}
 use Rattle.plan_insert.specs.declared.marks.Marks.{Marks}
@@ -23,18 +23,18 @@ marks_of m = marks m.label m.by m.from m.list m.size
 
 -- a chain holds those of the row's first t candidates that are of one side
 abbrev pub OfSide : Row → ℕ → List Bool → Side → Chain → Type 0
-OfSide row t kept side c = Chained row.cells (Flagged (stays side) t kept) (at (ends_of (stays side) row.lo.now row.hi.now)) c.head c.next
+OfSide row t kept side c = Chained row.cells (Flagged (stays side) t kept) (at (ends_of (stays side) row.lo row.hi)) c.head c.next
 
 -- the chains hold the row's first t candidates, by their flags
 abbrev pub Linked : Row → ℕ → List Bool → Sides → Type 0
-Linked row t kept c = Chains row.cells t (at row.lo.now) (at row.hi.now) kept (links_of c)
+Linked row t kept c = Chains row.cells t (at row.lo) (at row.hi) kept (links_of c)
 
 -- candidate t of the row can be inserted, and the row as it stands after t candidates
 abbrev pub Insertable : Row → ℕ → List Bool → List ℕ → List ℤ → Sides → Type 0
-Insertable row t kept room dist c = CanInsert row.cells t row.lo.now row.hi.now row.cost.now kept room dist (links_of c)
+Insertable row t kept room dist c = CanInsert row.cells t row.lo row.hi row.cost kept room dist (links_of c)
 
 abbrev pub Stands : (ℕ → ℕ) → ℕ → Row → ℕ → List Bool → List ℕ → List ℤ → Type 0
-Stands limit count row t kept room dist = Standing limit count row.cells t row.lo.now row.hi.now row.cost.now kept room dist
+Stands limit count row t kept room dist = Standing limit count row.cells t row.lo row.hi row.cost kept room dist
 
 -- the way that was found can be walked back from a to b
 abbrev pub Walkable : List Bool → List ℕ → Sides → Search → ℕ → ℕ → Type 0

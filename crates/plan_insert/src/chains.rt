@@ -3,7 +3,8 @@ ghost use Rattle.std.specs.Prelude.{◌≡◌, suc, ◌≤◌, ◌<◌, set};
 ghost use Rattle.plan_insert.specs.State.{at, Flagged};
 ghost use Rattle.plan_insert.specs.Joining.{CanPutIn, CanTakeOut, Moved, CanFollow, Above};
 
-use crate::ground::{Row, Side};
+use crate::ground::Side;
+use crate::Row;
 
 // Some candidates by one of their ends: head[v] is 1 past the latest one with its end at node v, next[j] 1 past the latest before j with
 // the same end. The links are numbers in arrays, since nothing may allocate; 0 is none, since an array of options would be twice as big.
@@ -82,7 +83,7 @@ impl Sides {
 
     // Keeps or drops candidate t, a new one: it goes into the chain of its last node where it is kept, of its first where it is dropped.
     pub fn enter(&mut self, row: &Row, kept: &mut [bool; 256], t: usize, side: Side)
-        requires ends { (row.now.cells ≤ 127) × (t < 256) × (at row.now.lo.now t ≤ row.now.cells) × (at row.now.hi.now t ≤ row.now.cells) }
+        requires ends { (row.now.cells ≤ 127) × (t < 256) × (at row.now.lo t ≤ row.now.cells) × (at row.now.hi t ≤ row.now.cells) }
         requires before { Linked row.now t kept.old self.old }
         ensures kept_after { kept.new ≡ set kept.old t (stays side) }
         ensures chained { Linked row.now (suc t) kept.new self.new }

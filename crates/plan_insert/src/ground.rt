@@ -5,33 +5,25 @@ ghost use Rattle.plan_insert.specs.State.{Ready, cost_along, ends_of};
 ghost use Rattle.plan_insert.specs.Lent.{stays, OfSide, Linked};
 
 use crate::chains::{Chain, Sides};
-
-// The row's cells, and the candidates: candidate i is over the cells lo[i] to hi[i] - 1 and costs minus its profit.
-#[derive(Clone, Copy)]
-pub struct Row<'a> {
-    pub cells: usize,
-    pub lo: &'a [usize; 256],
-    pub hi: &'a [usize; 256],
-    pub cost: &'a [i64; 256],
-}
+use crate::Row;
 
 // The flow after the first t candidates, as a search finds it, with the chains that lead it to its arcs.
 #[derive(Clone, Copy)]
 pub struct Ground<'a> {
-    pub row: Row<'a>,
+    pub row: &'a Row,
     pub t: usize,
     pub kept: &'a [bool; 256],
     pub room: &'a [usize; 128],
     pub dist: &'a [i64; 128],
     pub chains: &'a Sides,
-    ghost ready: { Ready row.cells t row.lo.now row.hi.now row.cost.now kept.now room.now dist.now },
-    ghost linked: { Linked row t kept.now chains.now },
+    ghost ready: { Ready row.now.cells t row.now.lo row.now.hi row.now.cost kept.now room.now dist.now },
+    ghost linked: { Linked row.now t kept.now chains.now },
 }
 
 impl Ground<'_> {
     // The chains of one side.
     pub fn chain(&self, side: Side) -> &Chain
-        ensures { OfSide self.now.row self.now.t self.now.kept.now side result.now }
+        ensures { OfSide self.now.row.now self.now.t self.now.kept.now side result.now }
     {
         match side {
             Side::Dropped => &self.chains.dropped,
@@ -41,11 +33,11 @@ impl Ground<'_> {
 
     // The nodes where the arcs of one side end.
     pub fn far(&self, side: Side) -> &[usize; 256]
-        ensures { result.now ≡ ends_of (stays side) self.now.row.hi.now self.now.row.lo.now }
+        ensures { result.now ≡ ends_of (stays side) self.now.row.now.hi self.now.row.now.lo }
     {
         match side {
-            Side::Dropped => self.row.hi,
-            Side::Held => self.row.lo,
+            Side::Dropped => &self.row.hi,
+            Side::Held => &self.row.lo,
         }
     }
 }

@@ -4,8 +4,9 @@ ghost use Rattle.base_signed.specs.Parts.{dn};
 ghost use Rattle.plan_insert.specs.State.{Below, Deepened, Gains, lowest};
 
 use crate::chains::Sides;
-use crate::ground::{Ground, Row, Side};
+use crate::ground::{Ground, Side};
 use crate::search::Search;
+use crate::{Planned, Row};
 
 // What a candidate of this cost, between nodes at these distances, would gain: 0 where it is worth no more than its cells' prices.
 fn gain_of(cost: i64, near: i64, far: i64) -> usize
@@ -41,42 +42,41 @@ impl Planner {
         &mut self,
         row: &Row,
         t: usize,
-        kept: &mut [bool; 256],
+        planned: &mut Planned,
         room: &mut [usize; 128],
-        dist: &mut [i64; 128],
     )
-        requires { Insertable row.now t kept.old room.old dist.old self.old.chains }
-        ensures standing { (w : Insertable row.now t kept.old room.old dist.old self.old.chains) → Stands w.limit w.count row.now (suc t) kept.new room.new dist.new }
-        ensures chains { Linked row.now (suc t) kept.new self.new.chains }
+        requires { Insertable row.now t planned.old.kept room.old planned.old.dist self.old.chains }
+        ensures standing { (w : Insertable row.now t planned.old.kept room.old planned.old.dist self.old.chains) → Stands w.limit w.count row.now (suc t) planned.new.kept room.new planned.new.dist }
+        ensures chains { Linked row.now (suc t) planned.new.kept self.new.chains }
     {
         let a = row.lo[t];
         let b = row.hi[t];
-        let gain = gain_of(row.cost[t], dist[a], dist[b]);
+        let gain = gain_of(row.cost[t], planned.dist[a], planned.dist[b]);
         if gain == 0 {
-            self.chains.enter(row, kept, t, Side::Dropped);
+            self.chains.enter(row, &mut planned.kept, t, Side::Dropped);
             return;
         }
         if base_lists::room_between(room, a, b) {
             base_lists::take_room(room, a, b);
-            self.chains.enter(row, kept, t, Side::Held);
+            self.chains.enter(row, &mut planned.kept, t, Side::Held);
             return;
         }
         let ground = Ground {
-            row: *row,
+            row,
             t,
-            kept,
+            kept: &planned.kept,
             room,
-            dist,
+            dist: &planned.dist,
             chains: &self.chains,
         };
         if self.search.find(&ground, a, b, gain) {
             let near = self.search.marks.label[a];
-            deepen(dist, &self.search.marks.label, row.cells, near);
-            self.chains.enter(row, kept, t, Side::Held);
-            self.chains.walk_back(kept, room, &self.search, a, b);
+            deepen(&mut planned.dist, &self.search.marks.label, row.cells, near);
+            self.chains.enter(row, &mut planned.kept, t, Side::Held);
+            self.chains.walk_back(&mut planned.kept, room, &self.search, a, b);
             return;
         }
-        deepen(dist, &self.search.marks.label, row.cells, gain);
-        self.chains.enter(row, kept, t, Side::Dropped);
+        deepen(&mut planned.dist, &self.search.marks.label, row.cells, gain);
+        self.chains.enter(row, &mut planned.kept, t, Side::Dropped);
     }
 }

@@ -13,27 +13,35 @@ mod walk;
 ghost use Rattle.plan_insert.specs.State.{at, CanPlan, Standing};
 
 use chains::{Chain, Sides};
-use ground::Row;
 use insert::Planner;
 use marks::Marks;
 use search::Search;
 
-// Plans a row of `cells` cells with `count` candidates: candidate i is over the cells lo[i] to hi[i] - 1 and costs minus its profit. `room` has
-// each cell's limit and ends as the room that is left, `kept` says which candidates are kept, and `dist` has each node's distance: the price of
-// cell j is dist[j] - dist[j + 1].
-pub fn plan_row(
-    cells: usize,
-    count: usize,
-    lo: &[usize; 256],
-    hi: &[usize; 256],
-    cost: &[i64; 256],
-    kept: &mut [bool; 256],
-    room: &mut [usize; 128],
-    dist: &mut [i64; 128],
-)
-    requires { CanPlan cells count lo.now hi.now cost.now room.old }
-    ensures { Standing (at room.old) count cells count lo.now hi.now cost.now kept.new room.new dist.new }
+// A row's cells, and its candidates: candidate i is over the cells lo[i] to hi[i] - 1 and costs minus its profit.
+#[derive(Clone, Copy)]
+pub struct Row {
+    pub cells: usize,
+    pub lo: [usize; 256],
+    pub hi: [usize; 256],
+    pub cost: [i64; 256],
+}
+
+// Which candidates are kept, and each node's distance: the price of cell j is dist[j] - dist[j + 1].
+#[derive(Clone, Copy)]
+pub struct Planned {
+    pub kept: [bool; 256],
+    pub dist: [i64; 128],
+}
+
+// Plans a row with its first `count` candidates. `room` has each cell's limit and ends as the room that is left.
+pub fn plan_row(row: &Row, count: usize, room: &mut [usize; 128]) -> Planned
+    requires { CanPlan row.now.cells count row.now.lo row.now.hi row.now.cost room.old }
+    ensures { Standing (at room.old) count row.now.cells count row.now.lo row.now.hi row.now.cost result.kept room.new result.dist }
 {
+    let mut planned = Planned {
+        kept: [false; 256],
+        dist: [0; 128],
+    };
     let mut planner = Planner {
         chains: Sides {
             dropped: Chain {
@@ -56,14 +64,9 @@ pub fn plan_row(
             },
         },
     };
-    let row = Row {
-        cells,
-        lo,
-        hi,
-        cost,
-    };
-    steps::begin(cells, count, cost, room, dist);
+    steps::begin(row, count, room, &mut planned.dist);
     for t in 0..count {
-        planner.insert(&row, t, kept, room, dist);
+        planner.insert(row, t, &mut planned, room);
     }
+    planned
 }

@@ -73,7 +73,7 @@ impl Marks {
 
     // The arc up the cell above u: it is always open.
     fn rise(&mut self, ground: &Ground, most: usize, u: usize)
-        requires { (u ≤ ground.now.row.cells) × (at self.old.label u ≤ 1000000) }
+        requires { (u ≤ ground.now.row.now.cells) × (at self.old.label u ≤ 1000000) }
         ensures { Spreads (ground_of ground.now) most Nothing UpDone u (marks_of self.old) (marks_of self.new) }
     {
         if u < ground.row.cells {
@@ -83,7 +83,7 @@ impl Marks {
 
     // The arc down the cell below u: it is open where that cell has room.
     fn fall(&mut self, ground: &Ground, most: usize, u: usize)
-        requires { (u ≤ ground.now.row.cells) × (at self.old.label u ≤ 1000000) }
+        requires { (u ≤ ground.now.row.now.cells) × (at self.old.label u ≤ 1000000) }
         ensures { Spreads (ground_of ground.now) most UpDone CellsDone u (marks_of self.old) (marks_of self.new) }
     {
         if 0 < u && 0 < ground.room[u - 1] {
@@ -93,7 +93,7 @@ impl Marks {
 
     // The arcs of one side out of u: along the dropped candidates from their first node, or back along the kept ones from their last.
     fn follow(&mut self, ground: &Ground, side: Side, most: usize, u: usize)
-        requires { (u ≤ ground.now.row.cells) × (at self.old.label u ≤ 1000000) }
+        requires { (u ≤ ground.now.row.now.cells) × (at self.old.label u ≤ 1000000) }
         ensures { Spreads (ground_of ground.now) most (NoneDone (stays side)) (DoneFrom (stays side) 0) u (marks_of self.old) (marks_of self.new) }
     {
         let chain = ground.chain(side);
@@ -115,7 +115,7 @@ impl Marks {
 
     // All arcs out of u.
     pub fn spread(&mut self, ground: &Ground, most: usize, u: usize)
-        requires { (u ≤ ground.now.row.cells) × (at self.old.label u ≤ 1000000) }
+        requires { (u ≤ ground.now.row.now.cells) × (at self.old.label u ≤ 1000000) }
         ensures { Spreads (ground_of ground.now) most Nothing AllDone u (marks_of self.old) (marks_of self.new) }
     {
         self.rise(ground, most, u);

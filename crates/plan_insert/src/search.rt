@@ -27,7 +27,7 @@ impl Search {
 
     // Searches for a way from b to a that is shorter than `most`. True where there is one: then by and from lead back from a to b.
     pub fn find(&mut self, ground: &Ground, a: usize, b: usize, most: usize) -> bool
-        requires { (a ≤ ground.now.row.cells) × (b ≤ ground.now.row.cells) × (0 < most) × (most ≤ 1000000) }
+        requires { (a ≤ ground.now.row.now.cells) × (b ≤ ground.now.row.now.cells) × (0 < most) × (most ≤ 1000000) }
         ensures { Searched (ground_of ground.now) a b most self.new.marks.label self.new.rank self.new.marks.by self.new.marks.from result }
     {
         self.start(ground.row.cells, b, most);

@@ -4,6 +4,8 @@ ghost use Rattle.std.specs.Prelude.{◌≡◌, ◌≤◌};
 ghost use Rattle.base_signed.specs.Parts.{up, dn};
 ghost use Rattle.plan_insert.specs.State.{Below, lowest, Fall, PastCell, Stepped};
 
+use crate::Row;
+
 // The lowest cost of a candidate: minus the dearest one's profit.
 fn lowest_cost(count: usize, cost: &[i64; 256]) -> i64
     requires count_bound { count ≤ 256 }
@@ -40,17 +42,11 @@ fn lay(dist: &mut [i64; 128], room: &[usize; 128], cells: usize, fall: i64)
 }
 
 // The same, with the dearest candidate's cost as the fall.
-pub fn begin(
-    cells: usize,
-    count: usize,
-    cost: &[i64; 256],
-    room: &[usize; 128],
-    dist: &mut [i64; 128],
-)
-    requires cells_bound { (cells ≤ 127) × (count ≤ 256) }
-    requires below { Below cost.now count 1000000 }
-    ensures { Stepped cells room.now dist.new }
+pub fn begin(row: &Row, count: usize, room: &[usize; 128], dist: &mut [i64; 128])
+    requires cells_bound { (row.now.cells ≤ 127) × (count ≤ 256) }
+    requires below { Below row.now.cost count 1000000 }
+    ensures { Stepped row.now.cells room.now dist.new }
 {
-    let fall = lowest_cost(count, cost);
-    lay(dist, room, cells, fall);
+    let fall = lowest_cost(count, &row.cost);
+    lay(dist, room, row.cells, fall);
 }

@@ -7,4 +7,4 @@ use Rattle.plan_insert.proofs.plan_row.Given as goal
 
 abbrev pub invariant-loop-t : goal.invariant-loop-t
 invariant-loop-t l =
-    Planning (at l.initial.room) l.count l.cells l.t l.lo l.hi l.cost l.kept l.room l.dist (links_of l.planner.chains)
+    Planning (at l.initial.room) l.count l.row.cells l.t l.row.lo l.row.hi l.row.cost l.planned.kept l.room l.planned.dist (links_of l.planner.chains)

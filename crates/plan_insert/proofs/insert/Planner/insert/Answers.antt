@@ -23,7 +23,7 @@ gain_is {cells} {t} {lo} {hi} w is =
 
 pub returns-then-gain-eq0-clause-standing : goal.returns-then-gain-eq0-clause-standing
 returns-then-gain-eq0-clause-standing c w =
-    let long : length c.args.kept.now ≡ 256 = omega arith in
+    let long : length c.args.planned.now.kept ≡ 256 = omega arith in
     let is = gain_is c.requires c.gain_of-gain.ensures in
     let e = c.enter.ensures in
     rw e.kept_after (dropped_unasked w long (omega (arith, is, c.if-gain-eq0.true)))
@@ -32,7 +32,7 @@ returns-then-gain-eq0-clause-standing c w =
 
 pub returns-then-room_between-clause-standing : goal.returns-then-room_between-clause-standing
 returns-then-room_between-clause-standing c w =
-    let long : length c.args.kept.now ≡ 256 = omega arith in
+    let long : length c.args.planned.now.kept ≡ 256 = omega arith in
     let e = c.enter-then-room_between.ensures in
     rw e.kept_after (kept_at_once w long (c.room_between.ensures c.if-room_between.true) c.take_room.ensures)
 
@@ -52,21 +52,21 @@ deepen-requires-clause-cells_bound c =
 
 pub walk_back-requires : goal.walk_back-requires
 walk_back-requires c =
-    let long : length c.args.kept.now ≡ 256 = omega arith in
+    let long : length c.args.planned.now.kept ≡ 256 = omega arith in
     let is = gain_is c.requires c.gain_of-gain.ensures in
     let e = c.enter-then-find.ensures in
     walkable c.requires long is c.if-gain-eq0.false c.find.ensures c.if-find.true e.kept_after e.chained
 
 pub returns-then-find-clause-standing : goal.returns-then-find-clause-standing
 returns-then-find-clause-standing c w =
-    let long : length c.args.kept.now ≡ 256 = omega arith in
+    let long : length c.args.planned.now.kept ≡ 256 = omega arith in
     let is = gain_is c.requires c.gain_of-gain.ensures in
     let e = c.enter-then-find.ensures in
     kept_by_walk w long is c.if-gain-eq0.false c.find.ensures c.if-find.true e.kept_after e.chained c.deepen.ensures c.walk_back.ensures.balanced
 
 pub returns-then-find-clause-chains : goal.returns-then-find-clause-chains
 returns-then-find-clause-chains c =
-    let long : length c.args.kept.now ≡ 256 = omega arith in
+    let long : length c.args.planned.now.kept ≡ 256 = omega arith in
     let is = gain_is c.requires c.gain_of-gain.ensures in
     let e = c.enter-then-find.ensures in
     chains_walked c.requires long is c.if-gain-eq0.false c.find.ensures c.if-find.true e.kept_after e.chained c.walk_back.ensures.chains
@@ -81,7 +81,7 @@ deepen-requires-2-clause-cells_bound c =
 
 pub returns-clause-standing : goal.returns-clause-standing
 returns-clause-standing c w =
-    let long : length c.args.kept.now ≡ 256 = omega arith in
+    let long : length c.args.planned.now.kept ≡ 256 = omega arith in
     let is = gain_is c.requires c.gain_of-gain.ensures in
     let e = c.enter-2.ensures in
     rw e.kept_after (dropped_after w long is c.if-gain-eq0.false c.find.ensures c.if-find.false c.deepen-2.ensures)

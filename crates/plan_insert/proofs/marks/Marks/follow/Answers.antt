@@ -13,27 +13,27 @@ pub bounds-ground-e : goal.bounds-ground-e
 bounds-ground-e c =
     let g = c.args.ground.now in
     let e : ℕ = c.loop-i.i - 1 in
-    let here : EndsAt (Flagged (stays c.args.side) g.t g.kept.now) (at (ends_of (stays c.args.side) g.row.lo.now g.row.hi.now)) c.args.u e = c.loop-i.invariant.here e (omega arith) in
+    let here : EndsAt (Flagged (stays c.args.side) g.t g.kept.now) (at (ends_of (stays c.args.side) g.row.now.lo g.row.now.hi)) c.args.u e = c.loop-i.invariant.here e (omega arith) in
     c.chain-chain.ensures.few e here.0
 
 pub offset_bounds-ground-e : goal.offset_bounds-ground-e
 offset_bounds-ground-e c =
     let g = c.args.ground.now in
     let e : ℕ = c.loop-i.i - 1 in
-    let here : EndsAt (Flagged (stays c.args.side) g.t g.kept.now) (at (ends_of (stays c.args.side) g.row.lo.now g.row.hi.now)) c.args.u e = c.loop-i.invariant.here e (omega arith) in
+    let here : EndsAt (Flagged (stays c.args.side) g.t g.kept.now) (at (ends_of (stays c.args.side) g.row.now.lo g.row.now.hi)) c.args.u e = c.loop-i.invariant.here e (omega arith) in
     omega (arith, c.chain-chain.ensures.few e here.0)
 
 pub try_arc-requires-clause-lacks : goal.try_arc-requires-clause-lacks
 try_arc-requires-clause-lacks c =
     let g = c.args.ground.now in
     let e : ℕ = c.loop-i.i - 1 in
-    let here : EndsAt (Flagged (stays c.args.side) g.t g.kept.now) (at (ends_of (stays c.args.side) g.row.lo.now g.row.hi.now)) c.args.u e = c.loop-i.invariant.here e (omega arith) in
+    let here : EndsAt (Flagged (stays c.args.side) g.t g.kept.now) (at (ends_of (stays c.args.side) g.row.now.lo g.row.now.hi)) c.args.u e = c.loop-i.invariant.here e (omega arith) in
     rw c.far-far.ensures (read_cost (link_lacks g.ready here.0.0 (stays c.args.side) c.cost_along.ensures here.0.1 here.1))
 
 pub loop-i-preserved : goal.loop-i-preserved
 loop-i-preserved c =
     let g = c.args.ground.now in
     let e : ℕ = c.loop-i.i - 1 in
-    let here : EndsAt (Flagged (stays c.args.side) g.t g.kept.now) (at (ends_of (stays c.args.side) g.row.lo.now g.row.hi.now)) c.args.u e = c.loop-i.invariant.here e (omega arith) in
+    let here : EndsAt (Flagged (stays c.args.side) g.t g.kept.now) (at (ends_of (stays c.args.side) g.row.now.lo g.row.now.hi)) c.args.u e = c.loop-i.invariant.here e (omega arith) in
     followed (stays c.args.side) c.chain-chain.ensures (omega arith) c.loop-i.invariant
     (link_done g.ready here.0.0 (stays c.args.side) c.cost_along.ensures here.0.1 here.1 (rw c.far-far.ensures at c.try_arc.ensures))

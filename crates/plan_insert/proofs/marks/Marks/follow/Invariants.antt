@@ -7,7 +7,7 @@ use Rattle.plan_insert.proofs.marks.Marks.follow.Given as goal
 abbrev pub invariant-loop-i : goal.invariant-loop-i
 invariant-loop-i l =
     let g = l.ground in
-    Followed (stays l.side) g.row.cells g.t g.row.lo.now g.row.hi.now g.row.cost.now g.kept.now g.room.now g.dist.now l.most l.u (marks_of l.initial.self) (marks_of l.self) l.i
+    Followed (stays l.side) g.row.now.cells g.t g.row.now.lo g.row.now.hi g.row.now.cost g.kept.now g.room.now g.dist.now l.most l.u (marks_of l.initial.self) (marks_of l.self) l.i
 
 abbrev pub decreases-loop-i : goal.decreases-loop-i
 decreases-loop-i l = l.i

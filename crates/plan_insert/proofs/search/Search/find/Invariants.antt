@@ -10,4 +10,4 @@ abbrev pub invariant-loop-u : goal.invariant-loop-u
 invariant-loop-u l = Looking (ground_of l.ground) l.a l.b l.most l.self.rank (marks_of l.self.marks) l.floor l.clock
 
 abbrev pub decreases-loop-u : goal.decreases-loop-u
-decreases-loop-u l = l.ground.row.cells + 2 - l.clock
+decreases-loop-u l = l.ground.row.now.cells + 2 - l.clock
