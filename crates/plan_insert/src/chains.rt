@@ -3,8 +3,8 @@ ghost use Rattle.std.specs.Prelude.{◌≡◌, suc, ◌≤◌, ◌<◌, set};
 ghost use Rattle.plan_insert.specs.State.{at, Flagged};
 ghost use Rattle.plan_insert.specs.Joining.{CanPutIn, CanTakeOut, Moved, CanFollow, Above};
 
-use crate::ground::Side;
 use crate::Row;
+use crate::ground::Side;
 
 // Some candidates by one of their ends: head[v] is 1 past the latest one with its end at node v, next[j] 1 past the latest before j with
 // the same end. The links are numbers in arrays, since nothing may allocate; 0 is none, since an array of options would be twice as big.

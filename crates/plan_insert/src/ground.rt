@@ -4,8 +4,8 @@ ghost use Rattle.base_signed.specs.Parts.{up, dn};
 ghost use Rattle.plan_insert.specs.State.{Ready, cost_along, ends_of};
 ghost use Rattle.plan_insert.specs.Lent.{stays, OfSide, Linked};
 
-use crate::chains::{Chain, Sides};
 use crate::Row;
+use crate::chains::{Chain, Sides};
 
 // The flow after the first t candidates, as a search finds it, with the chains that lead it to its arcs.
 #[derive(Clone, Copy)]

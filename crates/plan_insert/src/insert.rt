@@ -38,13 +38,7 @@ impl Planner {
     ghost use Rattle.plan_insert.specs.Lent.{Linked, Insertable, Stands};
 
     // Inserts candidate t.
-    pub fn insert(
-        &mut self,
-        row: &Row,
-        t: usize,
-        planned: &mut Planned,
-        room: &mut [usize; 128],
-    )
+    pub fn insert(&mut self, row: &Row, t: usize, planned: &mut Planned, room: &mut [usize; 128])
         requires { Insertable row.now t planned.old.kept room.old planned.old.dist self.old.chains }
         ensures standing { (w : Insertable row.now t planned.old.kept room.old planned.old.dist self.old.chains) → Stands w.limit w.count row.now (suc t) planned.new.kept room.new planned.new.dist }
         ensures chains { Linked row.now (suc t) planned.new.kept self.new.chains }
@@ -73,7 +67,8 @@ impl Planner {
             let near = self.search.marks.label[a];
             deepen(&mut planned.dist, &self.search.marks.label, row.cells, near);
             self.chains.enter(row, &mut planned.kept, t, Side::Held);
-            self.chains.walk_back(&mut planned.kept, room, &self.search, a, b);
+            self.chains
+                .walk_back(&mut planned.kept, room, &self.search, a, b);
             return;
         }
         deepen(&mut planned.dist, &self.search.marks.label, row.cells, gain);

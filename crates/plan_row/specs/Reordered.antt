@@ -1,13 +1,13 @@
 -- A row whose candidates stand in another order is planned as well as the row itself: a load is a sum over the candidates, which no order changes, and
 -- all else that is said of the planner's state is said of one candidate at a time. Assumes nothing.
-use Rattle.std.specs.Prelude.{◌≡◌, Bool, false, ◌&&◌, List, get_or, ℤ, pos}
-use Rattle.std.proofs.Common.{sym, ap, ◌∙◌, arith}
+use Rattle.std.specs.Prelude.{◌≡◌, Bool, false, ◌&&◌, List, get_or, take, ℤ, pos}
+use Rattle.std.proofs.Common.{sym, ap, ◌∙◌, arith, get_or-take}
 use Prim.Native.Nat.{ℕ, ◌<◌}
 use Rattle.base_sums.specs.At.{at, flag}
 use Rattle.base_sums.specs.Between.{is_between}
 use Rattle.base_sums.specs.Sums.{bit, Σ-ext}
 use Rattle.base_sums.specs.Filled.{FilledBy, Filled}
-use Rattle.base_sums.specs.Permuted.{Σ-permuted}
+use Rattle.base_sums.specs.Permuted.{Back, Σ-permuted}
 use Rattle.base_signed.specs.Parts.{up, dn}
 use Rattle.law_row.specs.Row.{covers}
 use Rattle.law_flow.specs.Balanced.{load_to}
@@ -83,3 +83,14 @@ module _
           load_is j =
               Σ-ext count _ (λ i. over j (at order i)) (λ i l. rw (a.lower.is i l, a.upper.is i l, p.is (at order i) (o.there.below i l), o.there.leads i l))
               ∙ Σ-permuted o.there o.back (over j)
+
+-- ---- an order speaks of its first places only, so it stays one where it is lent as a slice
+
+first_back : {n : ℕ} (to back : List ℕ) → Back n n (at to) (at back) → Back n n (at (take n to)) (at (take n back))
+first_back {n} to back b = record {
+  below = λ k l. rw (get_or-take n to k 0 l) (b.below k l);
+  leads = λ k l. rw (get_or-take n to k 0 l, get_or-take n back (at to k) 0 (b.below k l)) (b.leads k l);
+}
+
+pub order_first : {count : ℕ} {order place : List ℕ} → Order count order place → Order count (take count order) (take count place)
+order_first {order} {place} o = record { there = first_back order place o.there; back = first_back place order o.back }

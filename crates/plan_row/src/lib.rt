@@ -1,7 +1,7 @@
 // A line's columns as a row, and the prices of its cells.
 #![tactic(auto)]
 
-ghost use Rattle.std.specs.Prelude.{◌≡◌, ◌-◌, min, length};
+ghost use Rattle.std.specs.Prelude.{◌≡◌, ◌-◌, ◌≤◌, min, length};
 ghost use Rattle.base_sums.specs.At.{NumbersBelow, NumbersUpto};
 ghost use Rattle.base_signed.specs.Parts.{dn};
 ghost use Rattle.plan_row.specs.Steps.{Candidates, SolvableColumns, Solves, Falls, prices_of};
@@ -9,51 +9,62 @@ ghost use Rattle.plan_row.specs.Placing.{CanPrice, Placed};
 ghost use Rattle.plan_row.specs.Reordered.{Arranged, PutBack};
 
 use base_columns::Columns;
+use plan_insert::Row;
 
-// The lower and the upper end of each request, and its cost: minus its profit.
-fn lay(columns: &Columns, lo: &mut [usize; 256], hi: &mut [usize; 256], cost: &mut [i64; 256])
+// The requests as candidates of a row: each over the cells from its lower end up to its upper one, at a cost of minus its profit.
+fn lay(columns: &Columns) -> Row
     requires { NumbersUpto 1000000 (length columns.now.a.now) columns.now.profit.now }
-    ensures { Candidates (length columns.now.a.now) columns.now.a.now columns.now.b.now columns.now.profit.now lo.new hi.new cost.new }
+    ensures cells { result.cells ≡ length columns.now.limits.now }
+    ensures candidates { Candidates (length columns.now.a.now) columns.now.a.now columns.now.b.now columns.now.profit.now result.lo result.hi result.cost }
 {
+    let mut row = Row {
+        cells: columns.limits.len(),
+        lo: [0; 256],
+        hi: [0; 256],
+        cost: [0; 256],
+    };
     let a = columns.a;
     let b = columns.b;
     for i in 0..columns.a.len() {
-        lo[i] = a[i].min(b[i]);
-        hi[i] = a[i].max(b[i]);
-        cost[i] = -(columns.profit[i] as i64);
+        row.lo[i] = a[i].min(b[i]);
+        row.hi[i] = a[i].max(b[i]);
+        row.cost[i] = -(columns.profit[i] as i64);
     }
+    row
 }
 
-// The candidates in the order in which they are inserted.
-fn arrange(
-    count: usize,
-    order: &[usize; 256],
-    lo: &[usize; 256],
-    hi: &[usize; 256],
-    cost: &[i64; 256],
-    los: &mut [usize; 256],
-    his: &mut [usize; 256],
-    costs: &mut [i64; 256],
-)
-    requires { NumbersBelow count count order.now }
-    ensures { Arranged count order.now lo.now hi.now cost.now los.new his.new costs.new }
+// The row with its candidates in the order in which they are inserted.
+fn arrange(row: &Row, order: &[usize]) -> Row
+    requires few { length order.now ≤ 256 }
+    requires numbers { NumbersBelow (length order.now) (length order.now) order.now }
+    ensures cells { result.cells ≡ row.now.cells }
+    ensures arranged { Arranged (length order.now) order.now row.now.lo row.now.hi row.now.cost result.lo result.hi result.cost }
 {
-    for i in 0..count {
-        let r = order[i];
-        los[i] = lo[r];
-        his[i] = hi[r];
-        costs[i] = cost[r];
+    let mut arranged = Row {
+        cells: row.cells,
+        lo: [0; 256],
+        hi: [0; 256],
+        cost: [0; 256],
+    };
+    for (i, r) in order.iter().enumerate() {
+        arranged.lo[i] = row.lo[*r];
+        arranged.hi[i] = row.hi[*r];
+        arranged.cost[i] = row.cost[*r];
     }
+    arranged
 }
 
 // Which requests are kept, by number: each one as the candidate at its place in the order.
-fn put_back(count: usize, place: &[usize; 256], keeps: &[bool; 256], kept: &mut [bool; 256])
-    requires { NumbersBelow count count place.now }
-    ensures { PutBack count place.now keeps.now kept.new }
+fn put_back(place: &[usize], keeps: &[bool; 256]) -> [bool; 256]
+    requires few { length place.now ≤ 256 }
+    requires numbers { NumbersBelow (length place.now) (length place.now) place.now }
+    ensures { PutBack (length place.now) place.now keeps.now result }
 {
-    for r in 0..count {
-        kept[r] = keeps[place[r]];
+    let mut kept = [false; 256];
+    for (r, p) in place.iter().enumerate() {
+        kept[r] = keeps[*p];
     }
+    kept
 }
 
 // A row's best set: the cells from lo[i] to hi[i] - 1 are request i's, `kept` says which requests are kept, and a cell's price is what `dist` falls by along it.
@@ -70,38 +81,28 @@ pub fn solve(columns: &Columns) -> BestSet
     requires { SolvableColumns columns.now }
     ensures { Solves (length columns.now.limits.now) (length columns.now.a.now) columns.now.limits.now columns.now.a.now columns.now.b.now columns.now.profit.now result.lo result.hi result.kept result.dist }
 {
-    let cells = columns.limits.len();
     let count = columns.a.len();
-    let mut lo = [0; 256];
-    let mut hi = [0; 256];
-    let mut kept = [false; 256];
-    let mut dist = [0; 128];
-    let mut cost = [0; 256];
+    let row = lay(columns);
     let mut room = [0; 128];
+    base_lists::copy(row.cells, columns.limits, &mut room);
     let mut order = [0; 256];
     let mut place = [0; 256];
-    let mut los = [0; 256];
-    let mut his = [0; 256];
-    let mut costs = [0; 256];
-    let mut keep = [false; 256];
-    lay(columns, &mut lo, &mut hi, &mut cost);
-    base_lists::copy(cells, columns.limits, &mut room);
     plan_order::ordered(
         columns.limits,
-        &lo[..count],
-        &hi[..count],
+        &row.lo[..count],
+        &row.hi[..count],
         columns.profit,
         &mut order,
         &mut place,
     );
-    arrange(
-        count, &order, &lo, &hi, &cost, &mut los, &mut his, &mut costs,
-    );
-    plan_insert::plan_row(
-        cells, count, &los, &his, &costs, &mut keep, &mut room, &mut dist,
-    );
-    put_back(count, &place, &keep, &mut kept);
-    BestSet { lo, hi, kept, dist }
+    let arranged = arrange(&row, &order[..count]);
+    let planned = plan_insert::plan_row(&arranged, count, &mut room);
+    BestSet {
+        lo: row.lo,
+        hi: row.hi,
+        kept: put_back(&place[..count], &planned.kept),
+        dist: planned.dist,
+    }
 }
 
 // The price of each cell, at its place: what the distance falls by along the cell, and no more than 1,000,000.

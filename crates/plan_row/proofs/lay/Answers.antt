@@ -15,4 +15,4 @@ loop-i-preserved c =
     let l = c.loop-i in
     let gain : ℕ = at c.args.columns.now.profit.now l.i in
     let z = neg (pos gain) in
-    rw (paid gain (c.requires.upto l.i (omega arith))).again (laying_more _ l.invariant (omega arith) (omega arith) (omega arith) z.rise z.fall)
+    (l.invariant.0, rw (paid gain (c.requires.upto l.i (omega arith))).again (laying_more _ l.invariant.1 (omega arith) (omega arith) (omega arith) z.rise z.fall))
