@@ -84,7 +84,7 @@ pub fn solve(columns: &Columns) -> BestSet
     let count = columns.a.len();
     let row = lay(columns);
     let mut room = [0; 128];
-    base_lists::copy(row.cells, columns.limits, &mut room);
+    base_lists::copy(columns.limits.len(), columns.limits, &mut room);
     let mut order = [0; 256];
     let mut place = [0; 256];
     plan_order::ordered(
