@@ -11,18 +11,13 @@ ghost use Rattle.plan_row.specs.Reordered.{Arranged, PutBack};
 use base_columns::Columns;
 use plan_insert::Row;
 
-// The requests as candidates of a row: each over the cells from its lower end up to its upper one, at a cost of minus its profit.
-fn lay(columns: &Columns) -> Row
+// The requests as candidates of a row: each over the cells from its lower end up to its upper one, at a cost of minus its profit. (Here and in
+// `arrange` the row is lent: one that is returned is copied twice, 1 to 2 in a hundred of all instructions.)
+fn lay(columns: &Columns, row: &mut Row)
     requires { NumbersUpto 1000000 (length columns.now.a.now) columns.now.profit.now }
-    ensures cells { result.cells ≡ length columns.now.limits.now }
-    ensures candidates { Candidates (length columns.now.a.now) columns.now.a.now columns.now.b.now columns.now.profit.now result.lo result.hi result.cost }
+    ensures cells { row.new.cells ≡ row.old.cells }
+    ensures candidates { Candidates (length columns.now.a.now) columns.now.a.now columns.now.b.now columns.now.profit.now row.new.lo row.new.hi row.new.cost }
 {
-    let mut row = Row {
-        cells: columns.limits.len(),
-        lo: [0; 256],
-        hi: [0; 256],
-        cost: [0; 256],
-    };
     let a = columns.a;
     let b = columns.b;
     for i in 0..columns.a.len() {
@@ -30,28 +25,20 @@ fn lay(columns: &Columns) -> Row
         row.hi[i] = a[i].max(b[i]);
         row.cost[i] = -(columns.profit[i] as i64);
     }
-    row
 }
 
-// The row with its candidates in the order in which they are inserted.
-fn arrange(row: &Row, order: &[usize]) -> Row
+// The candidates in the order in which they are inserted.
+fn arrange(row: &Row, order: &[usize], arranged: &mut Row)
     requires few { length order.now ≤ 256 }
     requires numbers { NumbersBelow (length order.now) (length order.now) order.now }
-    ensures cells { result.cells ≡ row.now.cells }
-    ensures arranged { Arranged (length order.now) order.now row.now.lo row.now.hi row.now.cost result.lo result.hi result.cost }
+    ensures cells { arranged.new.cells ≡ arranged.old.cells }
+    ensures arranged { Arranged (length order.now) order.now row.now.lo row.now.hi row.now.cost arranged.new.lo arranged.new.hi arranged.new.cost }
 {
-    let mut arranged = Row {
-        cells: row.cells,
-        lo: [0; 256],
-        hi: [0; 256],
-        cost: [0; 256],
-    };
     for (i, r) in order.iter().enumerate() {
         arranged.lo[i] = row.lo[*r];
         arranged.hi[i] = row.hi[*r];
         arranged.cost[i] = row.cost[*r];
     }
-    arranged
 }
 
 // Which requests are kept, by number: each one as the candidate at its place in the order.
@@ -81,10 +68,17 @@ pub fn solve(columns: &Columns) -> BestSet
     requires { SolvableColumns columns.now }
     ensures { Solves (length columns.now.limits.now) (length columns.now.a.now) columns.now.limits.now columns.now.a.now columns.now.b.now columns.now.profit.now result.lo result.hi result.kept result.dist }
 {
+    let cells = columns.limits.len();
     let count = columns.a.len();
-    let row = lay(columns);
+    let mut row = Row {
+        cells,
+        lo: [0; 256],
+        hi: [0; 256],
+        cost: [0; 256],
+    };
+    lay(columns, &mut row);
     let mut room = [0; 128];
-    base_lists::copy(columns.limits.len(), columns.limits, &mut room);
+    base_lists::copy(cells, columns.limits, &mut room);
     let mut order = [0; 256];
     let mut place = [0; 256];
     plan_order::ordered(
@@ -95,7 +89,13 @@ pub fn solve(columns: &Columns) -> BestSet
         &mut order,
         &mut place,
     );
-    let arranged = arrange(&row, &order[..count]);
+    let mut arranged = Row {
+        cells,
+        lo: [0; 256],
+        hi: [0; 256],
+        cost: [0; 256],
+    };
+    arrange(&row, &order[..count], &mut arranged);
     let planned = plan_insert::plan_row(&arranged, count, &mut room);
     BestSet {
         lo: row.lo,
