@@ -12,7 +12,7 @@ use base_columns::Columns;
 use plan_insert::Row;
 
 // The requests as candidates of a row: each over the cells from its lower end up to its upper one, at a cost of minus its profit. (Here and in
-// `arrange` the row is lent: one that is returned is copied twice, 1 to 2 in a hundred of all instructions.)
+// `arrange` the row is lent: one that is returned is copied twice, which cost about 1 in 100 of all instructions.)
 fn lay(columns: &Columns, row: &mut Row)
     requires { NumbersUpto 1000000 (length columns.now.a.now) columns.now.profit.now }
     ensures cells { row.new.cells ≡ row.old.cells }
@@ -76,6 +76,7 @@ pub fn solve(columns: &Columns) -> BestSet
         hi: [0; 256],
         cost: [0; 256],
     };
+    let mut arranged = row;
     lay(columns, &mut row);
     let mut room = [0; 128];
     base_lists::copy(cells, columns.limits, &mut room);
@@ -89,12 +90,6 @@ pub fn solve(columns: &Columns) -> BestSet
         &mut order,
         &mut place,
     );
-    let mut arranged = Row {
-        cells,
-        lo: [0; 256],
-        hi: [0; 256],
-        cost: [0; 256],
-    };
     arrange(&row, &order[..count], &mut arranged);
     let planned = plan_insert::plan_row(&arranged, count, &mut room);
     BestSet {
