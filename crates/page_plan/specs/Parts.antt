@@ -1,7 +1,7 @@
 -- The printed lines are their parts put one after the other. Assumes nothing.
-use Rattle.std.specs.Prelude.{List, ◌++◌, ◌≡◌, ℕ, ◌+◌, ◌/◌, ◌%◌, ◌≤◌, ◌<◌, eqb, length}
+use Rattle.std.specs.Prelude.{Option, None, Some, MatchOption, is_none, unwrap_or, true, false, List, ◌++◌, ◌≡◌, ℕ, ◌+◌, ◌/◌, ◌%◌, ◌≤◌, ◌<◌, eqb, length}
 use native.Mathlib.Omega.{arith}
-use Rattle.std.proofs.Common.{add-zero, eq-eqb, ne_eqb}
+use Rattle.std.proofs.Common.{add-zero, ne_eqb}
 use Rattle.std.proofs.Math.Numerals.{add-one}
 use Rattle.page_text.specs.Words.{word}
 use Rattle.page_text.specs.Decimal.{decimal}
@@ -9,6 +9,8 @@ use Rattle.page_text.specs.Put.{Put, put_none, put_on, put_both}
 use Rattle.paper_book.specs.Columns.{at}
 use Rattle.page_plan.specs.Printed.{printed_refusal, first_line, request_line, lines}
 use Rattle.page_plan.specs.Promise.{PrintsRefusal, Printable, PrintsPlan}
+use Rattle.page_plan.specs.declared.shown.Shown.{Shown}
+use Rattle.page_plan.specs.Asked.{PrintsShown}
 use Rattle.page_plan.specs.Columns.{line_at, same_text}
 use Rattle.page_plan.specs.Room.{RequestRoom, request_length, lines_room, request_short}
 
@@ -26,7 +28,7 @@ refusal_put number place p q r s h = record { fits = h; text = put_both (decimal
 
 -- the first line, which ends in one of two ways
 module _
-    {o₀ o₁ o₂ o₃ o₄ o₅ : List ℕ} {start p₁ p₂ p₃ p₄ p₅ : ℕ} (shape earned number cut : ℕ)
+    {o₀ o₁ o₂ o₃ o₄ o₅ : List ℕ} {start p₁ p₂ p₃ p₄ p₅ : ℕ} (earned number cut : ℕ)
     (profit : Put o₀ o₁ start (word "profit ") p₁)
     (earnings : Put o₁ o₂ p₁ (decimal earned) p₂)
     (kept : Put o₂ o₃ p₂ (word " kept ") p₃)
@@ -35,13 +37,13 @@ module _
   upto_cut : Put o₀ o₅ start (word "profit " ++ decimal earned ++ word " kept " ++ decimal number ++ word " cut ") p₅
   upto_cut = put_on (put_on (put_on (put_on profit earnings) kept) counted) cuts
 
-  pub first_none : {o₆ : List ℕ} {p₆ : ℕ} → shape ≡ 1 → Put o₅ o₆ p₅ (word "none\n") p₆ → Put o₀ o₆ start (first_line (eqb shape 1) earned number cut) p₆
+  pub first_none : {o₆ : List ℕ} {p₆ : ℕ} → Put o₅ o₆ p₅ (word "none\n") p₆ → Put o₀ o₆ start (first_line true earned number cut) p₆
   unfolding first_line
-  first_none s end = rw (eq-eqb shape 1 s) (put_both (word "none") (word "\n") upto_cut end)
+  first_none end = put_both (word "none") (word "\n") upto_cut end
 
-  pub first_cut : {o₆ : List ℕ} {p₆ : ℕ} → (shape ≡ 1 → ⊥) → Put o₅ o₆ p₅ (decimal cut ++ word "\n") p₆ → Put o₀ o₆ start (first_line (eqb shape 1) earned number cut) p₆
+  pub first_cut : {o₆ : List ℕ} {p₆ : ℕ} → Put o₅ o₆ p₅ (decimal cut ++ word "\n") p₆ → Put o₀ o₆ start (first_line false earned number cut) p₆
   unfolding first_line
-  first_cut s end = rw (ne_eqb shape 1 s) (put_both (decimal cut) (word "\n") upto_cut end)
+  first_cut end = put_both (decimal cut) (word "\n") upto_cut end
 
 -- five numbers, each with the byte after it: four spaces and a line feed
 pub request_put :
@@ -97,3 +99,21 @@ pub plan_put :
     → PrintsPlan shape count earned number cut a b entries before after r
 plan_put {shape} {count} {earned} {number} {cut} {a} {b} {entries} p w room =
     record { fits = omega arith; text = λ book limits profits s h. rw (same_text book shape count earned number cut limits a b profits entries s h) at (put_on p w.put) }
+
+-- of the plan that was asked for
+pub shown_put :
+    (plan : Shown) {before out after : List ℕ} {start r : ℕ}
+    → Put before out 0 (first_line (is_none plan.cut) plan.earned plan.kept (unwrap_or plan.cut 65535)) start
+    → Printing plan.a.now plan.b.now plan.entries.now out start (length plan.a.now) after r
+    → start + lines_room (length plan.a.now) ≤ 4096
+    → PrintsShown plan before after r
+unfolding first_line
+shown_put plan {before} {out} {after} {start} {r} p w room = by plan.cut p
+  where
+    Prints : ℕ → ℕ → Type 0
+    Prints shape cut = PrintsPlan shape (length plan.a.now) plan.earned plan.kept cut plan.a.now plan.b.now plan.entries.now before after r
+
+    by : (cut : Option ℕ) → Put before out 0 (first_line (is_none cut) plan.earned plan.kept (unwrap_or cut 65535)) start
+        → MatchOption cut ((c : ℕ) → Prints 1 c) (λ c. (shape : ℕ) → (shape ≡ 1 → ⊥) → Prints shape c)
+    by None q = λ c. plan_put q w room
+    by (Some c) q = λ shape other. plan_put (rw (ne_eqb shape 1 other) q) w room

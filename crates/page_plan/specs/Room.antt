@@ -1,10 +1,11 @@
 -- How much room the printed lines take. With ends below 64 and a channel of up to three digits a request's line is 15 bytes long at most, and from request 100 on 16: after the
 -- first line, of 83 at most whatever the numbers, 256 requests end before 4,096. Assumes nothing.
-use Rattle.std.specs.Prelude.{Bool, true, false, List, ◌≡◌, ℕ, ◌+◌, ◌*◌, ◌-◌, ◌/◌, ◌%◌, ◌≤◌, ◌<◌, length}
-use Rattle.std.proofs.Common.{⊎_elim, arith, length-append}
+use Rattle.std.specs.Prelude.{Option, None, Some, unwrap_or, refl, Bool, true, false, List, ◌≡◌, ℕ, ◌+◌, ◌*◌, ◌-◌, ◌/◌, ◌%◌, ◌≤◌, ◌<◌, length}
+use Rattle.std.proofs.Common.{⊎_elim, arith, length-append, Fits, w64}
 use Rattle.base_sums.specs.Each.{less_or_not}
-use Rattle.page_text.specs.Decimal.{decimal, short}
+use Rattle.page_text.specs.Decimal.{decimal, short, short_64}
 use Rattle.page_text.specs.Put.{Put}
+use Rattle.page_plan.specs.declared.shown.Shown.{Shown}
 use Rattle.page_plan.specs.Printed.{first_line, request_line}
 
 -- there is room for the first line: three numbers, and the words (with "none" in any case)
@@ -19,6 +20,16 @@ pub first_ends :
 unfolding first_line
 first_ends before after at true earned number cut next p = omega (arith, simp length-append at p.ends)
 first_ends before after at false earned number cut next p = omega (arith, simp length-append at p.ends)
+
+cut_short : (cut : Option ℕ) → ((n : ℕ) → cut ≡ Some n → Fits w64 n) → length (decimal (unwrap_or cut 65535)) ≤ 20
+cut_short None fits = short 19 65535 (omega arith)
+cut_short (Some n) fits = short_64 n (fits n refl)
+
+-- a plan's three numbers of 64 bits have 60 digits at most
+pub numbers_short :
+    (plan : Shown) → Fits w64 plan.earned → Fits w64 plan.kept → ((n : ℕ) → plan.cut ≡ Some n → Fits w64 n)
+    → length (decimal plan.earned) + length (decimal plan.kept) + length (decimal (unwrap_or plan.cut 65535)) ≤ 60
+numbers_short plan e k c = omega (arith, short_64 plan.earned e, short_64 plan.kept k, cut_short plan.cut c)
 
 -- there is room for a request's line: five numbers, each with the byte after it
 pub record RequestRoom (out : List ℕ) (at number a b way channel : ℕ) : Type 0 where

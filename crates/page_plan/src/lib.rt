@@ -3,8 +3,13 @@
 #![tactic(auto)]
 
 mod parts;
+mod shown;
 
-ghost use Rattle.page_plan.specs.Promise.{PrintsRefusal, Printable, PrintsPlan};
+pub use shown::Shown;
+
+ghost use Rattle.std.specs.Prelude.{length};
+ghost use Rattle.page_plan.specs.Promise.{PrintsRefusal, Printable};
+ghost use Rattle.page_plan.specs.Asked.{PrintsShown};
 
 use page_text::Page;
 
@@ -23,27 +28,16 @@ pub fn print_refusal(out: &mut [u8; 4096], number: usize, place: usize) -> usize
     page.at
 }
 
-// Earnings, number kept and cut, and then each request with its way and channel. The columns hold the book's requests and their entries; `shape` is the book's,
-// 1 for a line, where the cut is not looked at. 256 requests end before the buffer does: specs/Room.antt counts.
-pub fn print_plan(
-    out: &mut [u8; 4096],
-    shape: usize,
-    count: usize,
-    earned: usize,
-    kept: usize,
-    cut: usize,
-    a: &[usize; 256],
-    b: &[usize; 256],
-    entries: &[usize; 256],
-) -> usize
-    requires { Printable count a.now b.now entries.now }
-    ensures { PrintsPlan shape count earned kept cut a.now b.now entries.now out.old out.new result }
+// Earnings, number kept and cut, and then each request with its way and channel. 256 requests end before the buffer does: specs/Room.antt counts.
+pub fn print_plan(out: &mut [u8; 4096], plan: Shown) -> usize
+    requires { Printable (length plan.a.now) plan.a.now plan.b.now plan.entries.now }
+    ensures { PrintsShown plan.entry out.old out.new result }
 {
     let mut page = Page {
         out: &mut out[..],
         at: 0,
     };
-    parts::put_first(&mut page, shape, earned, kept, cut);
-    parts::put_requests(&mut page, count, a, b, entries);
+    parts::put_first(&mut page, &plan);
+    parts::put_requests(&mut page, &plan);
     page.at
 }

@@ -2,10 +2,12 @@
 use Rattle.page_plan.specs.Parts.{first_none, first_cut}
 use Rattle.page_plan.proofs.parts.put_first.Goals as goal
 
-pub returns-then-shape-eq1-clause-put : goal.returns-then-shape-eq1-clause-put
-returns-then-shape-eq1-clause-put c =
-    first_none _ _ _ _ c.put_word.ensures.put c.put_decimal.ensures.put c.put_word-2.ensures.put c.put_decimal-2.ensures.put c.put_word-3.ensures.put c.if-shape-eq1.true c.put_word-then-shape-eq1.ensures.put
+pub returns-in-None-clause-put : goal.returns-in-None-clause-put
+returns-in-None-clause-put c =
+    rw c.in-None.is
+    (first_none _ _ _ c.put_word.ensures.put c.put_decimal.ensures.put c.put_word-2.ensures.put c.put_decimal-2.ensures.put c.put_word-3.ensures.put c.put_word-in-None.ensures.put)
 
-pub returns-clause-put : goal.returns-clause-put
-returns-clause-put c =
-    first_cut _ _ _ _ c.put_word.ensures.put c.put_decimal.ensures.put c.put_word-2.ensures.put c.put_decimal-2.ensures.put c.put_word-3.ensures.put c.if-shape-eq1.false c.put_number.ensures.put
+pub returns-in-Some-clause-put : goal.returns-in-Some-clause-put
+returns-in-Some-clause-put c =
+    rw c.in-Some.is
+    (first_cut _ _ _ c.put_word.ensures.put c.put_decimal.ensures.put c.put_word-2.ensures.put c.put_decimal-2.ensures.put c.put_word-3.ensures.put c.put_number.ensures.put)

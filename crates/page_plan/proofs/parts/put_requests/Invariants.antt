@@ -6,4 +6,5 @@ use Rattle.page_plan.proofs.parts.put_requests.Given as goal
 
 abbrev pub invariant-loop-i : goal.invariant-loop-i
 invariant-loop-i l =
-    (l.page.out.ghost_name ≡ l.initial.page.out.ghost_name) × Printing l.a l.b l.entries l.initial.page.out.now l.initial.page.at l.i l.page.out.now l.page.at
+    (l.page.out.ghost_name ≡ l.initial.page.out.ghost_name)
+    × Printing l.plan.a.now l.plan.b.now l.plan.entries.now l.initial.page.out.now l.initial.page.at l.i l.page.out.now l.page.at
