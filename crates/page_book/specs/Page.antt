@@ -1,6 +1,6 @@
 -- What the printing program writes: the text of the reading's refusal, or of a plan that the planner hands back. Lists of 256 and 64 places are long enough
 -- for every book, so 12 is never printed. Assumes nothing.
-use Rattle.std.specs.Prelude.{Result, Ok, Err, Bool, false, cond, List, ◌≡◌, refl, ℕ, ◌≤◌, length, take, drop}
+use Rattle.std.specs.Prelude.{Result, Ok, Err, Option, Some, None, MatchOption, Bool, false, cond, List, ◌≡◌, refl, ℕ, ◌≤◌, length, take, drop}
 use Rattle.std.proofs.Common.{sym, ap, ◌∙◌, arith, length-take}
 use Rattle.base_sums.specs.Table.{table}
 use Rattle.paper_book.specs.Book as Books
@@ -16,7 +16,9 @@ use Rattle.page_text.specs.Put.{Put, put_front}
 use Rattle.page_plan.specs.Printed.{printed_refusal, printed_plan}
 use Rattle.page_plan.specs.Promise.{PrintsRefusal, PrintsPlan, Printable}
 use Rattle.page_plan.specs.Fair.{fair_printable}
+use Rattle.page_plan.specs.Fronts.{fronts_hold, front_text}
 use Rattle.read_record.specs.declared.Refusal.{Refusal}
+use Rattle.read_record.specs.declared.shape.Shape.TheVariants.{Line, Ring}
 use Rattle.read_record.specs.Numbers.{number_of}
 use Rattle.read_record.specs.Shapes.{code_of}
 use Rattle.plan_book.specs.declared.BookPlan.{BookPlan}
@@ -90,9 +92,15 @@ module _ {file : List ℕ} {r : Result BookPlan Refusal} (b : BookPlanned file 2
     pub page_printable : Printable plan.count plan.a plan.b plan.entries
     page_printable = fair_printable ours.sound (plan_holds ours) ours.planned.fair
 
-    pub page_planned :
-        {shape : ℕ} {before after : List ℕ} {k : ℕ} → shape ≡ code_of plan.shape
-        → PrintsPlan shape plan.count plan.earned plan.number plan.cut plan.a plan.b plan.entries before after k → Paged file before after k
+    few : plan.count ≤ length plan.a
+    few = omega (arith, page_printable.a_in.few, ours.a_end.long)
+
+    -- the printing of the plan's first numbers, one for each request
+    abbrev Prints : ℕ → ℕ → List ℕ → List ℕ → ℕ → Type 0
+    Prints shape cut =
+        PrintsPlan shape (length (take plan.count plan.a)) plan.earned plan.number cut (take plan.count plan.a) (take plan.count plan.b) (take plan.count plan.entries)
+
+    page_planned : {shape : ℕ} {before after : List ℕ} {k : ℕ} → shape ≡ code_of plan.shape → Prints shape plan.cut before after k → Paged file before after k
     page_planned {shape} {before} {after} {k} code prints =
         record {
           fits = prints.fits;
@@ -102,8 +110,21 @@ module _ {file : List ℕ} {r : Result BookPlan Refusal} (b : BookPlanned file 2
           plan = λ other h. let is = read in let same : book ≡ other = cc in rw same at shown;
         }
       where
+        profits : List ℕ
+        profits = table (Books.count book) (profit book)
+
         text : Put before after 0 (printed_plan book (at plan.entries) plan.earned plan.number plan.cut) k
-        text = prints.text book book.limits (table (Books.count book) (profit book)) (sym (code ∙ ours.shape_is)) (plan_holds ours)
+        text =
+            rw (front_text book plan.entries plan.earned plan.number plan.cut ours.count_is)
+            at (prints.text book book.limits profits (sym (code ∙ ours.shape_is)) (fronts_hold plan.a few (plan_holds ours)))
 
         shown : PlanPage book after k
         shown = record { plan = at plan.entries; earned = plan.earned; number = plan.number; cut = plan.cut; planned = ours.planned; text = put_front text }
+
+    -- a line's plan is printed without its cut, and a ring's with it
+    module _ {cut : Option ℕ} {before after : List ℕ} {k : ℕ} (prints : MatchOption cut ((c : ℕ) → Prints 1 c before after k) (λ c. (shape : ℕ) → (shape ≡ 1 → ⊥) → Prints shape c before after k)) where
+      pub page_line : plan.shape ≡ Line → cut ≡ None → Paged file before after k
+      page_line e none = page_planned (sym (ap code_of e)) ((rw none at prints) plan.cut)
+
+      pub page_ring : plan.shape ≡ Ring → cut ≡ Some plan.cut → Paged file before after k
+      page_ring e some = page_planned (sym (ap code_of e)) ((rw some at prints) 2 (λ z. omega arith))

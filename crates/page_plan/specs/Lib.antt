@@ -4,5 +4,6 @@ pub mod Promise
 pub mod Asked
 pub mod Fair
 pub mod Columns
+pub mod Fronts
 pub mod Room
 pub mod Parts

@@ -5,13 +5,12 @@
 mod parts;
 mod shown;
 
-pub use shown::Shown;
-
 ghost use Rattle.std.specs.Prelude.{length};
 ghost use Rattle.page_plan.specs.Promise.{PrintsRefusal, Printable};
 ghost use Rattle.page_plan.specs.Asked.{PrintsShown};
 
 use page_text::Page;
+pub use shown::Shown;
 
 // "refused N at P". Number and place stay two parameters: this crate stands on the definitions alone and does not know the reader's `Refusal`.
 pub fn print_refusal(out: &mut [u8; 4096], number: usize, place: usize) -> usize
