@@ -138,3 +138,22 @@ written_more {w} {n} {numbers} small was put =
       bytes = λ i k j h e. ⊎_elim (λ l. put.earlier (w * i + k) (omega (arith, ends w i l)) ∙ was.bytes i k j l e) (λ l. let same : i ≡ n = omega arith in rw same (put.bytes k j (omega arith) e)) (less_or_not i n);
       later = λ t h. put.later t (omega arith) ∙ was.later t (omega arith);
     }
+
+-- ---- the first n numbers of a list, lent by themselves
+
+module _ {n : ℕ} (numbers : List ℕ) (there : n ≤ length numbers) where
+  long : length (take n numbers) ≡ n
+  long = length-take-le n numbers there
+
+  pub front_fit : {w : ℕ} {out : List ℕ} → Fit w n numbers out → Fit w (length (take n numbers)) (take n numbers) out
+  front_fit fit = rw long (record { there = omega (arith, long); room = fit.room; whole = λ i h. rw (get_or-take n numbers i 0 h) (fit.whole i h) })
+
+  pub front_written : {w : ℕ} {before after : List ℕ} → Written w (length (take n numbers)) (at (take n numbers)) before after → Written w n (at numbers) before after
+  front_written written =
+      let was = rw long at written in
+      record {
+        length_same = was.length_same;
+        whole = λ i h. rw (get_or-take n numbers i 0 h) at (was.whole i h);
+        bytes = λ i k j h e. rw (get_or-take n numbers i 0 h) at (was.bytes i k j h e);
+        later = was.later;
+      }

@@ -21,9 +21,9 @@ pub fn melyonva_plan(book: &[u8], entries: &mut [u8], prices: &mut [u8]) -> u64
     match plan_book::plan_book(book, entries.len() / 2, prices.len() / 4) {
         Err(refused) => pack::refusal(refused),
         Ok(plan) => {
-            write::write_numbers(2, plan.count, &plan.entries, entries);
+            write::write_numbers(2, &plan.entries[..plan.count], entries);
             if let Shape::Line = plan.shape {
-                write::write_numbers(4, plan.spans, &plan.prices, prices);
+                write::write_numbers(4, &plan.prices[..plan.spans], prices);
             }
             pack::plan(plan.earned, plan.number, plan.cut)
         }

@@ -11,7 +11,7 @@ pub fn refusal(refusal: Refusal) -> u64
     requires { SmallRefusal (number_of refusal.row) refusal.place }
     ensures { result ≡ packed_refusal (number_of refusal.row) refusal.place }
 {
-    9223372036854775808 + refusal.row.number() as u64 * 4294967296 + refusal.place as u64
+    (1 << 63) + ((refusal.row.number() as u64) << 32) + refusal.place as u64
 }
 
 // A plan: earnings, number kept and cut.
@@ -19,5 +19,5 @@ pub fn plan(earned: usize, number: usize, cut: usize) -> u64
     requires { SmallPlan earned number cut }
     ensures { result ≡ packed_plan earned number cut }
 {
-    earned as u64 * 4294967296 + number as u64 * 65536 + cut as u64
+    ((earned as u64) << 32) + ((number as u64) << 16) + cut as u64
 }

@@ -13,14 +13,13 @@ fn put(out: &mut [u8], offset: usize, width: usize, value: usize)
     out[offset..offset + width].copy_from_slice(&bytes[8 - width..]);
 }
 
-// The first `count` numbers of a list, in so many bytes each: entries have two, prices four. (The count stays beside the list: the promise is said of the
-// planner's whole list, and of a part of it would only be said to be the same.)
-pub fn write_numbers(width: usize, count: usize, numbers: &[usize], out: &mut [u8])
+// Each number of a list, in so many bytes: entries have two, prices four.
+pub fn write_numbers(width: usize, numbers: &[usize], out: &mut [u8])
     requires few_bytes { width ≤ 8 }
-    requires fit { Fit width count numbers.now out.old }
-    ensures { Written width count (at numbers.now) out.old out.new }
+    requires fit { Fit width (length numbers.now) numbers.now out.old }
+    ensures { Written width (length numbers.now) (at numbers.now) out.old out.new }
 {
-    for (i, number) in numbers[..count].iter().enumerate() {
+    for (i, number) in numbers.iter().enumerate() {
         put(out, width * i, width, *number);
     }
 }

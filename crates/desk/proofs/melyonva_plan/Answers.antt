@@ -1,5 +1,5 @@
 -- `desk::melyonva_plan` meets its contract: what the planner promises, packed and written; nothing is written before its answer. Assumes nothing.
-use Rattle.desk.specs.Handing.{refusal_fits, handed_refusal, numbers_fit, entries_fit, prices_fit, handed_line, handed_ring}
+use Rattle.desk.specs.Handing.{refusal_fits, handed_refusal, numbers_fit, count_there, spans_there, entries_fit, prices_fit, handed_line, handed_ring}
 use Rattle.read_record.specs.Shapes.{ring_else}
 use Rattle.desk.proofs.melyonva_plan.Goals as goal
 use Rattle.desk.proofs.melyonva_plan.Goals.{in-Line, in_default}
@@ -9,6 +9,12 @@ refusal-requires c = refusal_fits c.args.entries.now c.args.prices.now c.plan_bo
 
 pub returns-in-Err : goal.returns-in-Err
 returns-in-Err c = handed_refusal c.args.entries.now c.args.prices.now c.plan_book.ensures c.in-Err.is c.refusal.ensures
+
+pub shared_ref_as_front-write_numbers : goal.shared_ref_as_front-write_numbers
+shared_ref_as_front-write_numbers c = count_there c.args.entries.now c.args.prices.now c.plan_book.ensures c.in-Ok.is
+
+pub shared_ref_as_front-write_numbers-in-Line : goal.shared_ref_as_front-write_numbers-in-Line
+shared_ref_as_front-write_numbers-in-Line c = spans_there c.args.entries.now c.args.prices.now c.plan_book.ensures c.in-Ok.is
 
 pub write_numbers-requires-clause-fit : goal.write_numbers-requires-clause-fit
 write_numbers-requires-clause-fit c = entries_fit c.args.entries.now c.args.prices.now c.plan_book.ensures c.in-Ok.is
