@@ -15,7 +15,9 @@ use page_text::Page;
 pub fn put_first(page: &mut Page, plan: &Shown)
     requires { FirstRoom page.old.out.now page.old.at plan.now.earned plan.now.kept (unwrap_or plan.now.cut 65535) }
     ensures same_buffer { page.new.out.ghost_name ≡ page.old.out.ghost_name }
-    ensures put { Put page.old.out.now page.new.out.now page.old.at (first_line (is_none plan.now.cut) plan.now.earned plan.now.kept (unwrap_or plan.now.cut 65535)) page.new.at }
+    ensures put { Put page.old.out.now page.new.out.now page.old.at
+        (first_line (is_none plan.now.cut) plan.now.earned plan.now.kept (unwrap_or plan.now.cut 65535))
+        page.new.at }
 {
     page.put_word(b"profit ");
     page.put_decimal(plan.earned);
@@ -31,7 +33,8 @@ pub fn put_first(page: &mut Page, plan: &Shown)
 // The number of request i, its a, b, way and channel.
 fn put_request(page: &mut Page, plan: &Shown, i: usize)
     requires there { i < length plan.now.a.now }
-    requires room { RequestRoom page.old.out.now page.old.at i (at plan.now.a.now i) (at plan.now.b.now i) (at plan.now.entries.now i / 256) (at plan.now.entries.now i % 256) }
+    requires room { RequestRoom page.old.out.now page.old.at i
+        (at plan.now.a.now i) (at plan.now.b.now i) (at plan.now.entries.now i / 256) (at plan.now.entries.now i % 256) }
     ensures same_buffer { page.new.out.ghost_name ≡ page.old.out.ghost_name }
     ensures put { Put page.old.out.now page.new.out.now page.old.at (line_at plan.now.a.now plan.now.b.now plan.now.entries.now i) page.new.at }
 {
@@ -48,7 +51,8 @@ pub fn put_requests(page: &mut Page, plan: &Shown)
     requires printable { Printable (length plan.now.a.now) plan.now.a.now plan.now.b.now plan.now.entries.now }
     requires lines_room_in_bounds { page.old.at + lines_room 256 ≤ length page.old.out.now }
     ensures same_buffer { page.new.out.ghost_name ≡ page.old.out.ghost_name }
-    ensures printing { Printing plan.now.a.now plan.now.b.now plan.now.entries.now page.old.out.now page.old.at (length plan.now.a.now) page.new.out.now page.new.at }
+    ensures printing { Printing plan.now.a.now plan.now.b.now plan.now.entries.now page.old.out.now page.old.at (length plan.now.a.now)
+        page.new.out.now page.new.at }
 {
     for i in 0..plan.a.len() {
         put_request(page, plan, i);

@@ -1,7 +1,8 @@
 // What the printing of a plan is asked for.
 ghost use Rattle.std.specs.Prelude.{◌≡◌, length};
 
-// What is printed of a plan: its earnings, how many it keeps and its cut, which is not shown on a line; and for each request both ends and the entry.
+// What is printed of a plan: its earnings, how many it keeps and its cut, which is not shown on a line; and for each request both ends and
+// the entry.
 #[derive(Clone, Copy)]
 pub struct Shown<'a> {
     pub earned: usize,
