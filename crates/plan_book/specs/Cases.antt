@@ -7,6 +7,7 @@ use Rattle.base_sums.specs.Table.{table, table_at}
 use Rattle.paper_book.specs.Book.{Book, count, limit, profit}
 use Rattle.paper_book.specs.Columns.{at, Holds}
 use Rattle.paper_book.specs.Reading.{Outcome, done, refused, and_then, reading, refused_not_done}
+use Rattle.paper_rules.specs.Operations as O
 use Rattle.paper_rules.specs.Operations.{places_short, plannable_in}
 use Rattle.read_record.specs.declared.Refusal.{Refusal}
 use Rattle.read_record.specs.declared.Row.{Row}
@@ -59,6 +60,17 @@ is_planned {file} {entryRoom} {priceRoom} {made} planned says = go (plannable_in
     go : (o : Outcome Book) → plannable_in file entryRoom priceRoom ≡ o → (book : Book) × (plannable_in file entryRoom priceRoom ≡ done book) × PlanOf book made
     go (done book) is = (book, is, rw says at planned.plan book is)
     go (refused n p) is = absurd (refused_not_done (sym (planned.refusal n p is) ∙ ap planned_of says))
+
+-- and it is one at the numbers answered
+pub plan_answered :
+    {book : Book} {r : BookPlan} {earned number cut : ℕ} → PlanOf book r → planned_of (Ok r) ≡ done (earned, number, cut) → O.Planned book (at r.entries) earned number cut
+unfolding planned_of
+plan_answered {r} {earned} {number} {cut} plan says =
+    let same : ◌≡◌ {A = ℕ × ℕ × ℕ} (r.earned, r.number, r.cut) (earned, number, cut) = cc in
+    let e : r.earned ≡ earned = ap (λ (t : ℕ × ℕ × ℕ). t.0) same in
+    let n : r.number ≡ number = ap (λ (t : ℕ × ℕ × ℕ). t.1) same in
+    let c : r.cut ≡ cut = ap (λ (t : ℕ × ℕ × ℕ). t.2) same in
+    rw (e, n, c) at plan.planned
 
 -- ---- what comes before a plan: a book that can be planned is the one that was read, and the lists are not short for it
 
