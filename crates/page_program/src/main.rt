@@ -7,6 +7,7 @@ use std::io::{Read, Write};
 fn main(rt: HostRuntime) -> io::Result<()> {
     // more bytes than any book has: a longer input is refused by its length
     let mut input = [0u8; 8192];
+    // how many bytes were read so far: no index, and the input says when it ends
     let mut n = 0;
     let mut stdin = rt.stdin();
     while n < 8192 {

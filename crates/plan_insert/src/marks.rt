@@ -71,7 +71,7 @@ impl Marks {
         self.relax(most, v, way, u, arc);
     }
 
-    // The arc up the cell above u: it is always open.
+    // The arc up the cell above u: it is always open. (Apart from `fall`, which has another test and another part of the promise: one function would ask twice which.)
     fn rise(&mut self, ground: &Ground, most: usize, u: usize)
         requires { (u ≤ ground.now.row.now.cells) × (at self.old.label u ≤ 1000000) }
         ensures { Spreads (ground_of ground.now) most Nothing UpDone u (marks_of self.old) (marks_of self.new) }

@@ -8,7 +8,7 @@ ghost use Rattle.plan_row.specs.Placing.{LowPrices};
 
 use base_columns::Columns;
 
-// The span of the ring for each place of the line which cut j leaves.
+// The span of the ring for each place of the line which cut j leaves. (Not by `turn_limits`, which would have to be lent a list of the spans' own numbers.)
 fn places(nodes: usize, j: usize, place: &mut [usize; 128])
     requires { (j < nodes) × (nodes ≤ 64) }
     ensures { Filled (span_at nodes j) (nodes - 1) place.new }

@@ -1,5 +1,6 @@
 // Judging by numbers. The byte count of a file is row 1 of document 01. A record is judged by its fields: a test for each clause of rows 2 to 11, lowest
-// row first; the answer is the row that the record breaks, where it breaks one.
+// row first; the answer is the row that the record breaks, where it breaks one. (Kind and mark stay numbers: the tests are about the file's bytes, and nobody
+// is handed a kind past them. A judge is told field by field what its tests compare: no group of them travels further.)
 ghost use Rattle.std.specs.Prelude.{◌≡◌};
 ghost use Rattle.paper_book.specs.Refusals.{count_wrong};
 ghost use Rattle.read_record.specs.Tests.{judged};

@@ -1,4 +1,5 @@
-// The order file, or a part of it, as reading sees it: a view that remembers how far it has read.
+// The order file, or a part of it, as reading sees it: a view that remembers how far it has read. (Document 01 names this form, a struct and thin functions over a
+// reader; where a record may stand depends on what is due, so each is told both.)
 ghost use Rattle.std.specs.Prelude.{◌≡◌};
 ghost use Rattle.read_record.specs.Due.{MayStand, record_at};
 
