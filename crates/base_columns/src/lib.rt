@@ -3,7 +3,8 @@
 
 ghost use Rattle.std.specs.Prelude.{◌≡◌, length};
 
-// A limit for each span; and for each request both ends and the profit, so that these three are of one length.
+// A limit for each span; and for each request both ends and the profit, so that these three are of one length. (Numbers, not records: document 01 names that form,
+// and a cut's line has other ends and the ring's profits.)
 #[derive(Clone, Copy)]
 pub struct Columns<'a> {
     pub limits: &'a [usize],

@@ -16,7 +16,7 @@ pub fn by_number(count: usize, list: &mut [usize])
     }
 }
 
-// The first numbers of one list in place of those of another.
+// The first numbers of one list in place of those of another. (The library's copy, with its promise said by `Filled`; an edit holds it.)
 pub fn copy(count: usize, list: &[usize], other: &mut [usize])
     requires { (count ≤ length list.now) × (count ≤ length other.old) }
     ensures { Filled (at list.now) count other.new }

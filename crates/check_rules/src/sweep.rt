@@ -51,6 +51,7 @@ impl Laid {
         requires swept { Swept count self.now.lo self.now.hi self.now.crossing self.now.channel ends.old v 0 }
         ensures { Passed v count self.now.lo self.now.hi self.now.crossing self.now.channel result ends.new }
     {
+        // along links: no index is counted
         let mut i = lists.first[v];
         while i < count {
             let c = self.channel[i];

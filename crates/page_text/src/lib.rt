@@ -34,7 +34,7 @@ impl<'a> Page<'a> {
         self.at = next;
     }
 
-    // A number in decimal, with no leading zero.
+    // A number in decimal, with no leading zero. (No Display: each byte's place in the buffer is promised.)
     pub fn put_decimal(&mut self, n: usize)
         requires { self.old.at + length (decimal n) ≤ length self.old.out.now }
         ensures same_buffer { self.new.out.ghost_name ≡ self.old.out.ghost_name }

@@ -14,6 +14,7 @@ use read_record::{Network, Refusal, Row, Shape};
 
 // The plan of an accepted book: what it earns, how many are kept and its cut; the book's shape, its numbers of spans and requests and both ends of each
 // request; an entry for each request and, on a line, a price for each span.
+// (No heap: lists as long as any book's. A line's cut is 65,535 and a ring's prices are 0, as document 01 hands them back.)
 #[derive(Clone, Copy)]
 pub struct BookPlan {
     pub earned: usize,
@@ -112,7 +113,7 @@ pub fn plan_book(file: &[u8], entry_places: usize, price_places: usize) -> Resul
                 prices,
             })
         }
-        // proved never to happen
+        // proved never to happen; not by From, since neither type is of this crate
         Err(none) => Err(Refusal {
             row: Row::NoChannel,
             place: none.request,

@@ -68,6 +68,7 @@ impl ByNode {
         ensures { (lo : List ℕ) (kept : List Bool) → ListedByNode (length hi.now) 0 lo kept self.now.first self.now.after → NodeGiven v (length hi.now) k lo hi.now kept channel.old ends.old result channel.new ends.new }
     {
         let mut i = self.first[v];
+        // along links: no index is counted
         while i < hi.len() {
             let Some(c) = lowest_past(k, ends, v) else {
                 return Err(NoneLeft { request: i });

@@ -21,6 +21,7 @@ impl Chain {
         ensures inside { result < 256 }
         ensures last { (w : CanFollow self.now.next j e) → Above (Flagged w.side w.t w.kept) w.ends self.now.next (w.ends j) e result }
     {
+        // along links: no index is counted
         let mut k = j;
         while e + 1 < self.next[k] {
             k = self.next[k] - 1;

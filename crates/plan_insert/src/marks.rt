@@ -19,6 +19,7 @@ fn length_left(cost: i64, near: i64, far: i64) -> usize
 }
 
 // What a search writes: each node's label, with its arc and its origin, and the list, of `size` nodes: those that have a label and are not settled.
+// (No heap: arrays, which a search writes again and again. Each arc asks the same of the node, whose label is the search's and whose place is the ground's.)
 #[derive(Drop)]
 pub struct Marks {
     pub label: [usize; 128],
@@ -98,6 +99,7 @@ impl Marks {
     {
         let chain = ground.chain(side);
         let far = ground.far(side);
+        // along links: no index is counted
         let mut i = chain.head[u];
         while 0 < i {
             let e = i - 1;

@@ -6,6 +6,7 @@ use crate::ground::Ground;
 use crate::marks::Marks;
 
 // What a search works with; what it held before plays no part. A settled node's rank says when that was, counted from 1, and an open one's is 0.
+// (Numbers: `law_flow` counts the turns so.)
 #[derive(Drop)]
 pub struct Search {
     pub rank: [usize; 128],
@@ -26,6 +27,7 @@ impl Search {
     }
 
     // Searches for a way from b to a that is shorter than `most`. True where there is one: then by and from lead back from a to b.
+    // (A bool: what is found stands in the marks, which the walk back is lent.)
     pub fn find(&mut self, ground: &Ground, a: usize, b: usize, most: usize) -> bool
         requires { (a ≤ ground.now.row.now.cells) × (b ≤ ground.now.row.now.cells) × (0 < most) × (most ≤ 1000000) }
         ensures { Searched (ground_of ground.now) a b most self.new.marks.label self.new.rank self.new.marks.by self.new.marks.from result }
@@ -36,6 +38,7 @@ impl Search {
         // the label of the last node settled
         let mut floor = 0;
         let mut clock = 1;
+        // until the list is empty: no index is counted
         while let Some(u) = self.marks.take(floor) {
             self.rank[u] = clock;
             if u == a {

@@ -1,5 +1,5 @@
 // The distances before any candidate. A cell without room has its price from the start, as high as the dearest candidate's profit: what would cross it gains
-// nothing, and no search is made for it.
+// nothing, and no search is made for it. (`Below` is asked of three different lists, costs and distances: no type has them all.)
 ghost use Rattle.std.specs.Prelude.{◌≡◌, ◌≤◌};
 ghost use Rattle.base_signed.specs.Parts.{up, dn};
 ghost use Rattle.plan_insert.specs.State.{Below, lowest, Fall, PastCell, Stepped};

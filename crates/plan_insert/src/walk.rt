@@ -25,6 +25,7 @@ impl Sides {
         ensures balanced { (w : Walkable kept.old room.old self.old found.now a b) → Balanced w.row w.t (flag kept.new) (at room.new) w.N }
         ensures chains { (w : Walkable kept.old room.old self.old found.now a b) → Chains w.row.cells w.t w.row.lo w.row.hi kept.new (links_of self.new) }
     {
+        // along arcs: no index is counted
         let mut v = a;
         while v != b {
             let u = found.marks.from[v];

@@ -12,7 +12,8 @@ ghost use Rattle.plan_line.specs.Promise.{LineLent, PlannableLine, LinePlanned};
 use base_columns::Columns;
 use plan_channels::NoneLeft;
 
-// A best plan: what it earns and how many are kept, an entry for each request and a price for each span.
+// A best plan: what it earns and how many are kept, an entry for each request and a price for each span. (No heap: lists as long as any book's. A ring's plan has a
+// cut and no prices, so that one struct for both would hold what is neither's.)
 #[derive(Clone, Copy)]
 pub struct LinePlan {
     pub earned: usize,

@@ -55,6 +55,7 @@ fn put_back(place: &[usize], keeps: &[bool; 256]) -> [bool; 256]
 }
 
 // A row's best set: the cells from lo[i] to hi[i] - 1 are request i's, `kept` says which requests are kept, and a cell's price is what `dist` falls by along it.
+// (No heap: the lists are as long as any book's.)
 #[derive(Clone, Copy)]
 pub struct BestSet {
     pub lo: [usize; 256],

@@ -53,7 +53,7 @@ pub fn turn_limits(n: usize, j: usize, limits: &[usize], turned: &mut [usize; 64
     }
 }
 
-// A ring's limits and ends along the line which a cut leaves: the first places of each, as many as the line has spans and requests.
+// A ring's limits and ends along the line which a cut leaves: the first places of each, as many as the line has spans and requests. (No heap: as long as any ring's.)
 #[derive(Clone, Copy)]
 pub struct CutColumns {
     pub limits: [usize; 64],

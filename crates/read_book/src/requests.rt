@@ -5,7 +5,7 @@ ghost use Rattle.read_book.specs.Orders.{OrdersRead};
 
 use read_record::{Due, Record, Refusal, Request, view};
 
-// The requests: the first `count` of the list.
+// The requests: the first `count` of the list. (No heap: the list is as long as any book's.)
 #[derive(Clone, Copy)]
 pub struct Orders {
     pub count: usize,
@@ -33,6 +33,7 @@ pub fn read_requests(part: &[u8], before: usize, nodes: usize) -> Result<Orders,
     let count = part.len() / 16;
     for i in 0..count {
         let reading = view::through_view(part, i, Due::Request { before, nodes });
+        // taken apart as document 01 names it
         let Ok(got) = reading else {
             return Err(reading.unwrap_err());
         };

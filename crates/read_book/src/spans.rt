@@ -12,6 +12,7 @@ pub fn read_spans(file: &[u8], channels: usize, spans: usize) -> Result<[usize; 
     let mut limits = [0usize; 64];
     for s in 0..spans {
         let reading = view::through_view(file, 1 + s, Due::Span { channels });
+        // taken apart as document 01 names it
         let Ok(got) = reading else {
             return Err(reading.unwrap_err());
         };

@@ -1,4 +1,4 @@
-// Numbers in a file, high byte first. Each asks that its bytes are there.
+// Numbers in a file, high byte first. Each asks that its bytes are there. (from_be_bytes would have to be handed an array made of them first.)
 ghost use Rattle.std.specs.Prelude.{◌≡◌, ◌+◌, ◌≤◌, ◌<◌, length};
 ghost use Rattle.paper_book.specs.Bytes as B;
 

@@ -109,7 +109,7 @@ fn head_at(file: &[u8], at: usize) -> Head
     }
 }
 
-// A record that breaks a row is refused at its place.
+// A record that breaks a row is refused at its place. (By a match: a chain of map and map_err was tried, and its proof did not close.)
 fn answer(judged: Result<(), Row>, place: usize, got: Record) -> Result<Record, Refusal>
     ensures { result ≡ R.answer judged place got }
 {

@@ -28,16 +28,6 @@ impl TryFrom<usize> for Shape {
 }
 
 impl Shape {
-    // Its number in a file.
-    pub fn code(self) -> usize
-        ensures { result ≡ code_of self }
-    {
-        match self {
-            Shape::Line => 1,
-            Shape::Ring => 2,
-        }
-    }
-
     // The fewest nodes that it may have.
     pub fn fewest(self) -> usize
         ensures { result ≡ R.fewest (code_of self) }

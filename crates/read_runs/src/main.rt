@@ -11,7 +11,7 @@ const BOOK: [u8; 48] = [
     3, 0, 0, 0, 0, 0, 0, 1, 0, 15, 66, 64, 0, 0, 0, 0,
 ];
 
-// A byte of the book, what is put there, and the refusal that it is to give.
+// A byte of the book, what is put there, and the refusal that it is to give. (Four lists, as specs/Changes has them: law `right` is about those.)
 const AT: [usize; 21] = [
     0, 1, 15, 1, 3, 3, 5, 5, 3, 16, 19, 31, 17, 21, 32, 33, 35, 47, 37, 39, 43,
 ];

@@ -7,6 +7,7 @@ ghost use Rattle.work_columns.specs.Columned.{Columned, CanColumn};
 use base_columns::Columns;
 use read_record::Request;
 
+// (Columns, not records: document 01 has the lent list of records read by few thin functions that pass numbers on. No heap: as long as any book's.)
 #[derive(Clone, Copy)]
 pub struct RequestColumns {
     pub a: [usize; 256],
