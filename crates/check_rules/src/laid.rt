@@ -6,6 +6,7 @@ ghost use Rattle.check_rules.specs.Entry.{LayingPlan, Lays};
 use crate::{entry_at, formed, where_kept};
 use base_columns::Columns;
 
+// (No heap: lists as long as any book's.)
 // For each request where it begins, where it ends, whether it crosses a span at all, and its channel.
 #[derive(Clone, Copy)]
 pub struct Laid {

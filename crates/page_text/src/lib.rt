@@ -6,6 +6,7 @@ ghost use Rattle.std.specs.Prelude.{◌≡◌, [], ◌∷◌, ◌++◌, ◌+◌,
 ghost use Rattle.page_text.specs.Decimal.{decimal};
 ghost use Rattle.page_text.specs.Put.{Put};
 
+// (Each method says that the buffer is the same one: it is lent to the struct, and another could stand there after a call.)
 #[derive(Drop)]
 pub struct Page<'a> {
     pub out: &'a mut [u8],

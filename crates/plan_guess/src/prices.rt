@@ -31,6 +31,7 @@ fn ask(bidders: &[Bidder], tolls: &[usize; 64], crossings: &mut [Crossing; 64]) 
 }
 
 // The price of each span, in 64ths, and how far it moves for a request too many or too few; and the toll of each node, what the spans below it cost together.
+// (No heap: lists as long as any row's.)
 #[derive(Drop)]
 pub struct Prices<'a> {
     limits: &'a [usize],

@@ -2,6 +2,7 @@
 ghost use Rattle.std.specs.Prelude.{◌≡◌, ◌≤◌, length};
 
 // For each request where it begins and ends, and its profit.
+// (The limits stand beside them, and are said to be few where prices are guessed: the worths need neither.)
 #[derive(Clone, Copy)]
 pub struct Requests<'a> {
     pub lo: &'a [usize],

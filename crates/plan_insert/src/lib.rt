@@ -18,6 +18,7 @@ use marks::Marks;
 use search::Search;
 
 // A row's cells, and its candidates: candidate i is over the cells lo[i] to hi[i] - 1 and costs minus its profit.
+// (No heap: lists as long as any book's. That the cells are few is asked where a function counts them: a ghost field would have to hold while a row is being laid.)
 #[derive(Clone, Copy)]
 pub struct Row {
     pub cells: usize,

@@ -77,7 +77,7 @@ pub fn turn_columns(ring: &Columns, j: usize) -> CutColumns
 }
 
 impl CutColumns {
-    // The columns of that line, of so many spans; the profits are the ring's.
+    // The columns of that line, of so many spans; the profits are the ring's. (Apart from the lending of a book's own columns, which promises another thing.)
     pub fn along<'a>(&'a self, spans: usize, profit: &'a [usize]) -> Columns<'a>
         requires { (spans ≤ 64) × (length profit.now ≤ 256) }
         ensures { (ring : Columns) (j : ℕ) → length ring.limits.now - 1 ≡ spans → ring.profit.now ≡ profit.now → CutTurned ring j self.now → CutLine ring j result }
