@@ -29,7 +29,7 @@ pub struct BookPlan {
     pub prices: [usize; 64],
 }
 
-// What the planner of a line or of a ring finds: what its plan earns, how many it keeps, its cut, an entry for each request and, on a line, a price for each
+// (A book's plan without its columns.) What the planner of a line or of a ring finds: what its plan earns, how many it keeps, its cut, an entry for each request and, on a line, a price for each
 // span.
 #[derive(Clone, Copy)]
 struct Found {

@@ -3,7 +3,7 @@ ghost use Rattle.std.specs.Prelude.{◌≤◌};
 
 use crate::requests::Requests;
 
-// The least and the greatest of the profits.
+// The least and the greatest of the profits. (Both in one pass: `min` and `max` of an iterator take one each.)
 #[derive(Clone, Copy)]
 pub struct Extremes {
     pub least: usize,

@@ -31,6 +31,7 @@ pub fn sum_kept(kept: &[bool; 256], profit: &[usize]) -> Totals
 }
 
 // The entry of each request: 0 where it is not kept, else way times 256 plus channel. Nothing is written past the requests.
+// (Numbers, as document 01 has an entry: way 1 and way 2 times 256.)
 pub fn enter(line: &Columns, kept: &[bool; 256], channel: &[usize; 256], entries: &mut [usize; 256])
     requires { NumbersUpto 96 (length line.now.a.now) channel.now }
     ensures entered { Entered (length line.now.a.now) line.now.a.now line.now.b.now kept.now channel.now entries.new }

@@ -10,7 +10,7 @@ ghost use Rattle.plan_turn.specs.Lent.{Columns, CanTurn, CutTurned, CutLine};
 
 use base_columns::Columns;
 
-// How many spans there are from node u up to node v, passing from the last node to node 0.
+// How many spans there are from node u up to node v, passing from the last node to node 0. (By a test, as document 01 defines it; a remainder would be proved the same.)
 fn steps(n: usize, u: usize, v: usize) -> usize
     requires { (v < n) × (u ≤ n) × (n ≤ 64) }
     ensures { result ≡ C.steps n u v }
