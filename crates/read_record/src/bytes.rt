@@ -29,14 +29,6 @@ pub fn four(file: &[u8], at: usize) -> usize
     high * 65536 + low
 }
 
-// Whether the four bytes from an offset on are all 0: then, and only then, their number is. (One test in place of four: every request is asked.)
-pub fn four_blank(file: &[u8], at: usize) -> bool
-    requires { at + 4 ≤ length file.now }
-    ensures { result ≡ B.blank file.now at 4 }
-{
-    four(file, at) == 0
-}
-
 // Whether the n bytes from an offset on are all 0.
 pub fn blank(file: &[u8], at: usize, n: usize) -> bool
     requires { at + n ≤ length file.now }
