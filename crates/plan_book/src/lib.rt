@@ -77,12 +77,7 @@ fn find(net: Network, columns: &Columns) -> Result<Found, NoneLeft>
 pub fn plan_book(file: &[u8], entry_places: usize, price_places: usize) -> Result<BookPlan, Refusal>
     ensures { BookPlanned file.now entry_places price_places result }
 {
-    // by reference: `?` would copy the book, nine kilobytes, twice
-    let read = read_book::read_book(file);
-    let taken = match &read {
-        Ok(taken) => taken,
-        Err(refusal) => return Err(*refusal),
-    };
+    let taken = read_book::read_book(file)?;
     let net = taken.network;
     let count = taken.count;
     let spans = net.shape.spans_of(net.nodes);
