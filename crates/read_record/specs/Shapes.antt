@@ -1,8 +1,9 @@
 -- The number of a shape in a file, and the shape of a number. Assumes nothing.
-use Rattle.std.specs.Prelude.{◌≡◌, refl, Result, MatchResult, cond, eqb, true, false, ℕ}
+use Rattle.std.specs.Prelude.{◌≡◌, refl, Result, Ok, Err, MatchResult, cond, eqb, true, false, ℕ}
+use Rattle.std.specs.Result.{is_ok}
 use Rattle.std.proofs.Math.Path.{sym, ap}
 use Rattle.std.proofs.Common.{◌∙◌, ⊎_elim, ne_eqb}
-use Rattle.base_sums.specs.Each.{same_or_not, of_yes}
+use Rattle.base_sums.specs.Each.{same_or_not, of_yes, fails, or_left, or_right}
 use Rattle.paper_book.specs.Refusals.{known}
 use Rattle.read_record.specs.declared.Row.{Row}
 use Rattle.read_record.specs.declared.Row.TheVariants.{Network}
@@ -37,9 +38,19 @@ unfolding known
 known_code Line code e = rw (← e) refl
 known_code Ring code e = rw (← e) refl
 
+-- whether it can be read
+pub decoded : (code : ℕ) (r : Result Shape Row) → Decodes code r → is_ok r ≡ known code
+decoded code (Ok shape) has = sym (known_code shape code has)
+decoded code (Err row) none = sym none.1
+
 pub unknown_code : (code : ℕ) → (code ≡ 1 → ⊥) → (code ≡ 2 → ⊥) → known code ≡ false
 unfolding known
 unknown_code code a b = simp (ne_eqb code 1 a, ne_eqb code 2 b)
+
+-- what is no shape's is neither of both
+pub not_known : (code : ℕ) → known code ≡ false → (eqb code 1 ≡ false) × (eqb code 2 ≡ false)
+unfolding known
+not_known code e = (fails (λ one. of_yes (sym e ∙ or_left (eqb code 1) (eqb code 2) one)), fails (λ two. of_yes (sym e ∙ or_right (eqb code 1) (eqb code 2) two)))
 
 pub code_back : (code : ℕ) → known code ≡ true → code_of (shape_of code) ≡ code
 unfolding known shape_of

@@ -10,6 +10,7 @@ ghost use Rattle.read_record.specs.Records as R;
 pub mod bytes;
 mod judge;
 mod shape;
+pub mod shapes;
 pub mod view;
 
 pub use shape::Shape;
