@@ -1,6 +1,6 @@
 -- The span records in turn: span s stands in record 1 + s, and the list takes its limit. Assumes nothing.
-use Rattle.std.specs.Prelude.{◌≡◌, Result, Ok, List, ℕ, ◌+◌, ◌<◌, set}
-use Rattle.std.proofs.Common.{sym, ap, ◌∙◌}
+use Rattle.std.specs.Prelude.{◌≡◌, Result, Ok, List, ℕ, ◌+◌, ◌-◌, ◌<◌, set}
+use Rattle.std.proofs.Common.{sym, ap, ◌∙◌, arith}
 use Rattle.paper_book.specs.Refusals.{limit_in}
 use Rattle.read_record.specs.declared.Refusal.{Refusal}
 use Rattle.read_record.specs.declared.Span.{Span}
@@ -16,6 +16,10 @@ span_series f channels =
 
 abbrev pub SpansRead : List ℕ → (channels spans : ℕ) → Result (List ℕ) Refusal → Type 0
 SpansRead f channels spans read = InList (span_series f channels) spans read
+
+-- the span due at record r is span r − 1
+pub span_due_lem : (f : List ℕ) (channels r : ℕ) → 0 < r → span_record_at f r channels ≡ (span_series f channels).says (r - 1)
+span_due_lem f channels r h = let span : r ≡ 1 + (r - 1) = omega arith in ap (λ (n : ℕ). span_record_at f n channels) span
 
 -- what is got where a span is due is that span
 module _ (f : List ℕ) (channels s : ℕ) (reading : Result Record Refusal) (got : Record) (is : reading ≡ span_record_at f (1 + s) channels) (e : reading ≡ Ok got) where
