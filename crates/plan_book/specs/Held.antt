@@ -28,7 +28,7 @@ use Rattle.read_book.specs.Says.{Reads, book_from}
 use Rattle.read_book.specs.Accepted.{refused_read, made_count}
 use Rattle.work_columns.specs.declared.RequestColumns.{RequestColumns}
 use Rattle.work_columns.specs.Columned.{Columned}
-use Rattle.work_columns.specs.Seam.{HeldColumns, accepted, held_columns, made_holds}
+use Rattle.work_columns.specs.Seam.{HeldBook, HeldColumns, accepted, held_columns, made_holds}
 use Rattle.plan_line.specs.declared.LinePlan.{LinePlan}
 use Rattle.plan_line.specs.Promise.{PlannableLine, LinePlanned}
 use Rattle.plan_ring.specs.declared.RingPlan.{RingPlan}
@@ -44,6 +44,22 @@ pub record Finds (book : Book) (found : Found) : Type 0 where
   pub entries_end : Vacant 0 (Books.count book) 256 found.entries
   pub line_prices_end : book.shape ≡ 1 → Vacant 0 (Books.spans book) 64 found.prices
   pub ring_prices : book.shape ≡ 2 → found.prices ≡ replicate 64 0
+
+-- what was found, beside the book's own numbers
+abbrev pub beside : Network → (spansN count : ℕ) → RequestColumns → Found → BookPlan
+beside net spansN count cols found =
+    record {
+      earned = found.earned;
+      number = found.number;
+      cut = found.cut;
+      shape = net.shape;
+      spans = spansN;
+      count = count;
+      a = cols.a;
+      b = cols.b;
+      entries = found.entries;
+      prices = found.prices;
+    }
 
 module _ {book : Book} {net : Network} {c : Columns} (held : HeldColumns book net c) where
   -- a held book of the line's shape is a line, and one of the ring's a ring
@@ -112,19 +128,7 @@ module _ {book : Book} {net : Network} {c : Columns} (held : HeldColumns book ne
   -- beside the columns of the requests it is a plan of the book
   pub plan_of :
       {requests : List Request} {limits : List ℕ} {n spansN : ℕ} {cols : RequestColumns} {found : Found} → Columned requests n cols → Holds book n limits cols.a cols.b cols.profit
-      → spansN ≡ spans_of (code_of net.shape) net.nodes → Finds book found
-      → PlanOf book (record {
-        earned = found.earned;
-        number = found.number;
-        cut = found.cut;
-        shape = net.shape;
-        spans = spansN;
-        count = n;
-        a = cols.a;
-        b = cols.b;
-        entries = found.entries;
-        prices = found.prices;
-      })
+      → spansN ≡ spans_of (code_of net.shape) net.nodes → Finds book found → PlanOf book (beside net spansN n cols found)
   unfolding Books.spans
   plan_of {n} {cols} made holds spans_is finds =
       record {
@@ -142,6 +146,13 @@ module _ {book : Book} {net : Network} {c : Columns} (held : HeldColumns book ne
         line_prices_end = finds.line_prices_end;
         ring_prices = finds.ring_prices;
       }
+
+-- the test of 12 on the numbers that hold the book
+pub short_is :
+    {net : Network} {n spansN : ℕ} {limits a b profits : List ℕ} {t : Bool} (entryRoom priceRoom : ℕ) (held : HeldBook net n limits a b profits) → spansN ≡ spans_of (code_of net.shape) net.nodes
+    → t ≡ short_of (code_of net.shape) spansN n entryRoom priceRoom → places_short held.book entryRoom priceRoom ≡ t
+unfolding places_short Books.spans Books.count
+short_is entryRoom priceRoom held s e = rw (held.shape_is, held.nodes_is, ← held.holds.counted, e, s) refl
 
 -- ---- any file
 

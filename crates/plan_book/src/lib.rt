@@ -2,15 +2,16 @@
 // desk's lists or printed is made from its answer.
 #![tactic(auto)]
 
-ghost use Rattle.std.specs.Prelude.{IsOkAnd};
+ghost use Rattle.std.specs.Prelude.{◌≡◌, IsOkAnd};
 ghost use Rattle.paper_book.specs.Book.{Book};
 ghost use Rattle.work_columns.specs.Seam.{HeldColumns};
 ghost use Rattle.plan_book.specs.Promise.{BookPlanned};
-ghost use Rattle.plan_book.specs.Held.{Finds};
+ghost use Rattle.plan_book.specs.Held.{Finds, beside};
 
 use base_columns::Columns;
 use plan_channels::NoneLeft;
 use read_record::{Network, Refusal, Row, Shape};
+use work_columns::RequestColumns;
 
 // The plan of an accepted book: what it earns, how many are kept and its cut; the book's shape, its numbers of spans and requests and both ends of each
 // request; an entry for each request and, on a line, a price for each span.
@@ -73,6 +74,35 @@ fn find(net: Network, columns: &Columns) -> Result<Found, NoneLeft>
     }
 }
 
+// What was found, beside the book's own numbers. (Not inlined: its lists would lie on the stack while the book is planned.)
+#[inline(never)]
+fn assembled(
+    net: Network,
+    spans: usize,
+    count: usize,
+    cols: &RequestColumns,
+    found: &Found,
+) -> BookPlan
+    ensures { result ≡ beside net spans count cols.now found.now }
+{
+    let a = cols.a;
+    let b = cols.b;
+    let entries = found.entries;
+    let prices = found.prices;
+    BookPlan {
+        earned: found.earned,
+        number: found.number,
+        cut: found.cut,
+        shape: net.shape,
+        spans,
+        count,
+        a,
+        b,
+        entries,
+        prices,
+    }
+}
+
 // Plans the book for lists with this many places for entries and for prices, or says by which number and at which place it is refused.
 pub fn plan_book(file: &[u8], entry_places: usize, price_places: usize) -> Result<BookPlan, Refusal>
     ensures { BookPlanned file.now entry_places price_places result }
@@ -90,24 +120,7 @@ pub fn plan_book(file: &[u8], entry_places: usize, price_places: usize) -> Resul
     let cols = work_columns::columns(&taken.requests, count);
     let columns = cols.lend(&taken.limits[..spans], count);
     match find(net, &columns) {
-        Ok(found) => {
-            let a = cols.a;
-            let b = cols.b;
-            let entries = found.entries;
-            let prices = found.prices;
-            Ok(BookPlan {
-                earned: found.earned,
-                number: found.number,
-                cut: found.cut,
-                shape: net.shape,
-                spans,
-                count,
-                a,
-                b,
-                entries,
-                prices,
-            })
-        }
+        Ok(found) => Ok(assembled(net, spans, count, &cols, &found)),
         // proved never to happen; not by From, since neither type is of this crate
         Err(none) => Err(Refusal {
             row: Row::NoChannel,

@@ -83,6 +83,8 @@ impl ByNode {
 
 // Gives every kept one its channel, and every other one 0.
 // (0, as document 01 has an entry that is not kept: an Option would be turned back at once.)
+// (Not inlined: its lists would lie on the stack while its caller goes on.)
+#[inline(never)]
 pub fn hand_out(
     cells: usize,
     k: usize,

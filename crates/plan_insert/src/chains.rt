@@ -8,7 +8,7 @@ use crate::ground::Side;
 
 // Some candidates by one of their ends: head[v] is 1 past the latest one with its end at node v, next[j] 1 past the latest before j with
 // the same end. The links are numbers in arrays, since nothing may allocate; 0 is none, since an array of options would be twice as big.
-#[derive(Drop)]
+#[derive(Clone, Copy)]
 pub struct Chain {
     pub head: [usize; 128],
     pub next: [usize; 256],
@@ -73,7 +73,7 @@ impl Chain {
 }
 
 // Both chains: the dropped candidates by their first node, where arcs along them start, and the kept ones by their last, where arcs back do.
-#[derive(Drop)]
+#[derive(Clone, Copy)]
 pub struct Sides {
     pub dropped: Chain,
     pub held: Chain,

@@ -28,7 +28,7 @@ fn deepen(dist: &mut [i64; 128], label: &[usize; 128], cells: usize, to: usize)
 }
 
 // What planning a row keeps for itself from one insertion to the next, and what each search writes, made once.
-#[derive(Drop)]
+#[derive(Clone, Copy)]
 pub struct Planner {
     pub chains: Sides,
     pub search: Search,

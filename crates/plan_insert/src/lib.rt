@@ -34,7 +34,33 @@ pub struct Planned {
     pub dist: [i64; 128],
 }
 
+// A planner before its first insertion. (A constant: one that is put together here would lie on the stack twice.)
+const FRESH: Planner = Planner {
+    chains: Sides {
+        dropped: Chain {
+            head: [0; 128],
+            next: [0; 256],
+        },
+        held: Chain {
+            head: [0; 128],
+            next: [0; 256],
+        },
+    },
+    search: Search {
+        rank: [0; 128],
+        marks: Marks {
+            label: [0; 128],
+            by: [0; 128],
+            from: [0; 128],
+            list: [0; 128],
+            size: 0,
+        },
+    },
+};
+
 // Plans a row with its first `count` candidates. `room` has each cell's limit and ends as the room that is left.
+// (Not inlined: its lists would lie on the stack while its caller goes on.)
+#[inline(never)]
 pub fn plan_row(row: &Row, count: usize, room: &mut [usize; 128]) -> Planned
     requires { CanPlan row.now.cells count row.now.lo row.now.hi row.now.cost room.old }
     ensures { Standing (at room.old) count row.now.cells count row.now.lo row.now.hi row.now.cost result.kept room.new result.dist }
@@ -43,28 +69,7 @@ pub fn plan_row(row: &Row, count: usize, room: &mut [usize; 128]) -> Planned
         kept: [false; 256],
         dist: [0; 128],
     };
-    let mut planner = Planner {
-        chains: Sides {
-            dropped: Chain {
-                head: [0; 128],
-                next: [0; 256],
-            },
-            held: Chain {
-                head: [0; 128],
-                next: [0; 256],
-            },
-        },
-        search: Search {
-            rank: [0; 128],
-            marks: Marks {
-                label: [0; 128],
-                by: [0; 128],
-                from: [0; 128],
-                list: [0; 128],
-                size: 0,
-            },
-        },
-    };
+    let mut planner = FRESH;
     steps::begin(row, count, room, &mut planned.dist);
     for t in 0..count {
         planner.insert(row, t, &mut planned, room);

@@ -20,7 +20,7 @@ fn length_left(cost: i64, near: i64, far: i64) -> usize
 
 // What a search writes: each node's label, with its arc and its origin, and the list, of `size` nodes: those that have a label and are not settled.
 // (No heap: arrays, which a search writes again and again. Each arc asks the same of the node, whose label is the search's and whose place is the ground's.)
-#[derive(Drop)]
+#[derive(Clone, Copy)]
 pub struct Marks {
     pub label: [usize; 128],
     pub by: [usize; 128],

@@ -7,7 +7,7 @@ use crate::marks::Marks;
 
 // What a search works with; what it held before plays no part. A settled node's rank says when that was, counted from 1, and an open one's is 0.
 // (Numbers: `law_flow` counts the turns so.)
-#[derive(Drop)]
+#[derive(Clone, Copy)]
 pub struct Search {
     pub rank: [usize; 128],
     pub marks: Marks,

@@ -29,7 +29,8 @@ pub fn best_earnings(line: &Columns, place: &[usize; 128], prices: &mut [usize; 
     ensures value { (w : LineLent line.now) → result ≡ best w.book }
     ensures low_prices { LowPrices prices.old → LowPrices prices.new }
 {
-    let set = plan_row::solve(line);
+    let mut set = plan_row::BLANK;
+    plan_row::solve(line, &mut set);
     plan_row::price(line.limits.len(), &set.dist, place, prices);
     entries::sum_kept(&set.kept, line.profit).earned
 }
@@ -45,12 +46,13 @@ pub fn plan_line(line: &Columns, channels: usize) -> Result<LinePlan, NoneLeft>
     let mut entries = [0usize; 256];
     let mut place = [0usize; 128];
     let mut prices = [0usize; 64];
-    let set = plan_row::solve(line);
+    let mut set = plan_row::BLANK;
+    plan_row::solve(line, &mut set);
     plan_channels::hand_out(
         cells,
         channels,
-        &set.lo[..count],
-        &set.hi[..count],
+        &set.row.lo[..count],
+        &set.row.hi[..count],
         &set.kept[..count],
         &mut channel,
     )?;

@@ -23,13 +23,16 @@ pub struct RingPlan {
 
 // What a cut's line can earn at most, and no less: the ceiling of the known prices on it. (The book that the columns hold is asked for by each function here. A ghost
 // field in a type for rings was tried: it has to be a proposition, and the promises speak of the book itself.)
+// (Not inlined: its lists would lie on the stack while its caller goes on.)
+#[inline(never)]
 fn cut_ceiling(ring: &Columns, j: usize, known: &Known) -> usize
     requires ring_columns { RingLent ring.now }
     requires j_in_ring { j < length ring.now.limits.now }
     ensures { (w : RingLent ring.now) → cut_best w.book j ≤ result }
 {
     let n = ring.limits.len();
-    let turned = plan_turn::turn_columns(ring, j);
+    let mut turned = plan_turn::BLANK;
+    plan_turn::turn_columns(ring, j, &mut turned);
     let line = turned.along(n - 1, ring.profit);
     let mut prices = [0; 64];
     plan_turn::turn_limits(n, j, &known.prices, &mut prices);
@@ -42,7 +45,8 @@ fn cut_earnings(ring: &Columns, j: usize, known: &mut Known) -> usize
     requires j_in_ring { j < length ring.now.limits.now }
     ensures { (w : RingLent ring.now) → result ≡ cut_best w.book j }
 {
-    let turned = plan_turn::turn_columns(ring, j);
+    let mut turned = plan_turn::BLANK;
+    plan_turn::turn_columns(ring, j, &mut turned);
     let line = turned.along(ring.limits.len() - 1, ring.profit);
     known.best_earnings(j, &line)
 }
@@ -62,6 +66,8 @@ fn raised(ring: &Columns, top: usize, j: usize, known: &mut Known) -> usize
 }
 
 // The lowest-numbered span whose line has the greatest best earnings.
+// (Not inlined: its lists would lie on the stack while its caller goes on.)
+#[inline(never)]
 fn best_cut(ring: &Columns) -> usize
     requires { RingLent ring.now }
     ensures { (w : RingLent ring.now) → result ≡ cut w.book }
@@ -85,7 +91,8 @@ pub fn plan_ring(ring: &Columns, channels: usize) -> Result<RingPlan, NoneLeft>
     ensures { (w : PlannableRing channels ring.now) → IsOkAnd result (RingPlanned w.columns.book) }
 {
     let cut = best_cut(ring);
-    let turned = plan_turn::turn_columns(ring, cut);
+    let mut turned = plan_turn::BLANK;
+    plan_turn::turn_columns(ring, cut, &mut turned);
     let line = turned.along(ring.limits.len() - 1, ring.profit);
     let plan = plan_line::plan_line(&line, channels)?;
     let entries = plan.entries;

@@ -42,63 +42,65 @@ fn arrange(row: &Row, order: &[usize], arranged: &mut Row)
 }
 
 // Which requests are kept, by number: each one as the candidate at its place in the order.
-fn put_back(place: &[usize], keeps: &[bool; 256]) -> [bool; 256]
+fn put_back(place: &[usize], keeps: &[bool; 256], kept: &mut [bool; 256])
     requires few { length place.now ≤ 256 }
     requires numbers { NumbersBelow (length place.now) (length place.now) place.now }
-    ensures { PutBack (length place.now) place.now keeps.now result }
+    ensures { PutBack (length place.now) place.now keeps.now kept.new }
 {
-    let mut kept = [false; 256];
     for (r, p) in place.iter().enumerate() {
         kept[r] = keeps[*p];
     }
-    kept
 }
 
-// A row's best set: the cells from lo[i] to hi[i] - 1 are request i's, `kept` says which requests are kept, and a cell's price is what `dist` falls by along it.
+// A row's best set: the row with the requests laid on it, by number; `kept` says which requests are kept, and a cell's price is what `dist` falls by along it.
 // (No heap: the lists are as long as any book's.)
 #[derive(Clone, Copy)]
 pub struct BestSet {
-    pub lo: [usize; 256],
-    pub hi: [usize; 256],
+    pub row: Row,
     pub kept: [bool; 256],
     pub dist: [i64; 128],
 }
 
-// Lays the requests on the row and finds its best set. They are inserted in an order that is likely to be quick: which of several best sets is found may depend on it, and the time.
-pub fn solve(columns: &Columns) -> BestSet
-    requires { SolvableColumns columns.now }
-    ensures { Solves (length columns.now.limits.now) (length columns.now.a.now) columns.now.limits.now columns.now.a.now columns.now.b.now columns.now.profit.now result.lo result.hi result.kept result.dist }
-{
-    let cells = columns.limits.len();
-    let count = columns.a.len();
-    let mut row = Row {
-        cells,
+// A set before it is found. (A constant: one that is put together where it is needed would lie on the stack twice.)
+pub const BLANK: BestSet = BestSet {
+    row: Row {
+        cells: 0,
         lo: [0; 256],
         hi: [0; 256],
         cost: [0; 256],
-    };
-    let mut arranged = row;
-    lay(columns, &mut row);
+    },
+    kept: [false; 256],
+    dist: [0; 128],
+};
+
+// Lays the requests on the row and finds its best set. They are inserted in an order that is likely to be quick: which of several best sets is found may depend on it, and the time.
+// (The set is lent: one that is returned is copied twice, for every cut of a ring.)
+pub fn solve(columns: &Columns, set: &mut BestSet)
+    requires { SolvableColumns columns.now }
+    ensures { Solves (length columns.now.limits.now) (length columns.now.a.now) columns.now.limits.now columns.now.a.now columns.now.b.now columns.now.profit.now set.new.row.lo set.new.row.hi set.new.kept set.new.dist }
+{
+    let cells = columns.limits.len();
+    let count = columns.a.len();
+    set.row.cells = cells;
+    lay(columns, &mut set.row);
+    let mut arranged = set.row;
     let mut room = [0; 128];
     base_lists::copy(cells, columns.limits, &mut room);
     let mut order = [0; 256];
     let mut place = [0; 256];
     plan_order::ordered(
         columns.limits,
-        &row.lo[..count],
-        &row.hi[..count],
+        &set.row.lo[..count],
+        &set.row.hi[..count],
         columns.profit,
         &mut order,
         &mut place,
     );
-    arrange(&row, &order[..count], &mut arranged);
+    arrange(&set.row, &order[..count], &mut arranged);
     let planned = plan_insert::plan_row(&arranged, count, &mut room);
-    BestSet {
-        lo: row.lo,
-        hi: row.hi,
-        kept: put_back(&place[..count], &planned.kept),
-        dist: planned.dist,
-    }
+    put_back(&place[..count], &planned.kept, &mut set.kept);
+    let dist = planned.dist;
+    set.dist = dist;
 }
 
 // The price of each cell, at its place: what the distance falls by along the cell, and no more than 1,000,000.

@@ -61,19 +61,22 @@ pub struct CutColumns {
     pub b: [usize; 256],
 }
 
-// The limits and both ends of each request, along the line which cut j leaves.
-pub fn turn_columns(ring: &Columns, j: usize) -> CutColumns
+// Columns that no ring has been turned into yet.
+pub const BLANK: CutColumns = CutColumns {
+    limits: [0; 64],
+    a: [0; 256],
+    b: [0; 256],
+};
+
+// The limits and both ends of each request, along the line which cut j leaves. (Lent to be filled: handed back, they would be copied for every cut.)
+pub fn turn_columns(ring: &Columns, j: usize, turned: &mut CutColumns)
     requires { CanTurn ring.now j }
-    ensures { CutTurned ring.now j result }
+    ensures { CutTurned ring.now j turned.new }
 {
     let n = ring.limits.len();
-    let mut limits = [0; 64];
-    let mut a = [0; 256];
-    let mut b = [0; 256];
-    turn_limits(n, j, ring.limits, &mut limits);
-    turn_ends(n, j, ring.a, &mut a);
-    turn_ends(n, j, ring.b, &mut b);
-    CutColumns { limits, a, b }
+    turn_limits(n, j, ring.limits, &mut turned.limits);
+    turn_ends(n, j, ring.a, &mut turned.a);
+    turn_ends(n, j, ring.b, &mut turned.b);
 }
 
 impl CutColumns {

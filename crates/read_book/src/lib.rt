@@ -20,6 +20,8 @@ pub struct Taken {
 }
 
 // Reads a book, or says by which number and at which place it is refused. (Each record's answer is taken apart by let .. else: document 01 names that form.)
+// (Not inlined: its lists would lie on the stack while its caller goes on.)
+#[inline(never)]
 pub fn read_book(file: &[u8]) -> Result<Taken, Refusal>
     ensures { Reads file.now result }
 {

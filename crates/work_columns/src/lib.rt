@@ -15,21 +15,28 @@ pub struct RequestColumns {
     pub profit: [usize; 256],
 }
 
+// Columns before any request is read into them.
+const BLANK: RequestColumns = RequestColumns {
+    a: [0; 256],
+    b: [0; 256],
+    profit: [0; 256],
+};
+
 // The columns of the first `count` requests of the lent list.
+// (Not inlined: its lists would lie on the stack while its caller goes on.)
+#[inline(never)]
 pub fn columns(requests: &[Request], count: usize) -> RequestColumns
     requires { CanColumn requests.now count }
     ensures { Columned requests.now count result }
 {
-    let mut a = [0usize; 256];
-    let mut b = [0usize; 256];
-    let mut profit = [0usize; 256];
+    let mut cols = BLANK;
     for i in 0..count {
         let q = requests[i];
-        a[i] = q.a;
-        b[i] = q.b;
-        profit[i] = q.profit;
+        cols.a[i] = q.a;
+        cols.b[i] = q.b;
+        cols.profit[i] = q.profit;
     }
-    RequestColumns { a, b, profit }
+    cols
 }
 
 impl RequestColumns {

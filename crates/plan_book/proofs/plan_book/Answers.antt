@@ -28,7 +28,7 @@ returns-in-Ok c =
     let held = lent_columns 0 0 c.read_book.ensures c.in_ok-taken.was c.spans_of-spans.ensures c.columns-cols.ensures c.lend-columns.ensures.limits c.lend-columns.ensures.ends c.lend-columns.ensures.profit in
     planned_by
     (enough _ _ c.read_book.ensures c.in_ok-taken.was c.spans_of-spans.ensures (sym c.if-short.false ∙ c.short.ensures))
-    (plan_of held c.columns-cols.ensures (own_columns 0 0 c.read_book.ensures c.in_ok-taken.was c.columns-cols.ensures) c.spans_of-spans.ensures (c.in-Ok.ensures _ held))
+    (rw c.assembled.ensures (plan_of held c.columns-cols.ensures (own_columns 0 0 c.read_book.ensures c.in_ok-taken.was c.columns-cols.ensures) c.spans_of-spans.ensures (c.in-Ok.ensures _ held)))
 
 -- refusal 15 never comes
 pub returns-in-Err : goal.returns-in-Err

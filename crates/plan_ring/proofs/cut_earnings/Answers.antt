@@ -4,11 +4,11 @@ use Rattle.std.proofs.Common.{refl}
 use Rattle.plan_ring.specs.Turned.{can_turn, cut_lent, lent_earned}
 use Rattle.plan_ring.proofs.cut_earnings.Goals as goal
 
-pub turn_columns-turned-requires : goal.turn_columns-turned-requires
-turn_columns-turned-requires c = let t = can_turn c.requires.ring_columns _ c.requires.j_in_ring in (t.0, rw c.args.ring.now.b_even t.1)
+pub turn_columns-requires : goal.turn_columns-requires
+turn_columns-requires c = let t = can_turn c.requires.ring_columns _ c.requires.j_in_ring in (t.0, rw c.args.ring.now.b_even t.1)
 
 pub best_earnings-requires-clause-line_columns : goal.best_earnings-requires-clause-line_columns
-best_earnings-requires-clause-line_columns c = cut_lent c.requires.ring_columns _ c.requires.j_in_ring (c.along-line.ensures c.args.ring.now _ refl refl c.turn_columns-turned.ensures)
+best_earnings-requires-clause-line_columns c = cut_lent c.requires.ring_columns _ c.requires.j_in_ring (c.along-line.ensures c.args.ring.now _ refl refl c.turn_columns.ensures)
 
 pub returns : goal.returns
-returns c w = lent_earned w _ c.requires.j_in_ring (c.along-line.ensures c.args.ring.now _ refl refl c.turn_columns-turned.ensures) c.best_earnings.ensures
+returns c w = lent_earned w _ c.requires.j_in_ring (c.along-line.ensures c.args.ring.now _ refl refl c.turn_columns.ensures) c.best_earnings.ensures

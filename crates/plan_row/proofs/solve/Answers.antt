@@ -12,7 +12,7 @@ plan_row-planned-requires c =
     let o = order_first (rw laid at c.ordered.ensures) in
     let arranged = rw (length-take-le count c.ordered.new.order (omega arith)) at c.arrange.ensures.arranged in
     let can = can_plan c.requires c.lay.ensures.candidates c.copy.ensures in
-    rw c.arrange.ensures.cells (can_arranged o arranged can)
+    rw (c.arrange.ensures.cells, c.lay.ensures.cells) (can_arranged o arranged can)
 
 pub returns : goal.returns
 returns c =
@@ -21,7 +21,7 @@ returns c =
     let o = order_first (rw laid at c.ordered.ensures) in
     let arranged = rw (length-take-le count c.ordered.new.order (omega arith)) at c.arrange.ensures.arranged in
     let back = rw (length-take-le count c.ordered.new.place (omega arith)) at c.put_back.ensures in
-    let stands = rw c.arrange.ensures.cells at c.plan_row-planned.ensures in
+    let stands = rw (c.arrange.ensures.cells, c.lay.ensures.cells) at c.plan_row-planned.ensures in
     record {
       cost = _;
       candidates = c.lay.ensures.candidates;

@@ -4,4 +4,4 @@ use Rattle.work_columns.specs.Columned.{Columned}
 use Rattle.work_columns.proofs.columns.Given as goal
 
 abbrev pub invariant-loop-i : goal.invariant-loop-i
-invariant-loop-i l = Columned l.requests l.i (record { a = l.a; b = l.b; profit = l.profit })
+invariant-loop-i l = Columned l.requests l.i l.cols

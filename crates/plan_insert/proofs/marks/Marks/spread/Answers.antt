@@ -1,4 +1,4 @@
--- `plan_insert::search::spread` meets its contract. Its four calls take u through its stages one after another, and none lengthens the label of u, which
+-- `plan_insert::marks::Marks::spread` meets its contract. Its four calls take u through its stages one after another, and none lengthens the label of u, which
 -- each of them asks to be small. Assumes nothing.
 use Rattle.plan_insert.specs.Stages.{spreads_on}
 use Rattle.plan_insert.proofs.marks.Marks.spread.Goals as goal
